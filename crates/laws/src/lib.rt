@@ -1,0 +1,1 @@
+// Lemmas that two rooms need, in specs/; there is no code here.

@@ -1,0 +1,22 @@
+-- Bits, and a choice by a test. A bit is the number 0 or 1, and bits are added modulo 2.
+-- A row of bits, bytes or field elements is a function of the index, from 0.
+use mathlib.Core.Bool.{Bool, true, false}
+use mathlib.Core.List.{List}
+use Prim.Native.Nat.{ℕ, _+_, _-_, _*_, _/_, _%_, _^_}
+use lib.ListN.{getD}
+
+abbrev pub pick : {A : Type 0} → Bool → A → A → A
+pick true a b = a
+pick false a b = b
+
+-- a list as a row, with zeros after its end
+abbrev pub row : List ℕ → ℕ → ℕ
+row l i = getD l i 0
+
+-- bit i of a number of w bits, highest bit first
+abbrev pub bitOf : ℕ → ℕ → ℕ → ℕ
+bitOf w x i = x / 2 ^ (w - 1 - i) % 2
+
+-- Bytes go highest bit first: bit i of a row of bytes
+abbrev pub byteBit : (ℕ → ℕ) → ℕ → ℕ
+byteBit bytes i = bitOf 8 (bytes (i / 8)) (i % 8)
