@@ -1,3 +1,12 @@
 pub mod Bits
+pub mod Packet
 pub mod Field
 pub mod Outer
+pub mod Interleaver
+pub mod Turbo
+pub mod Slots
+pub mod Points
+pub mod Cells
+pub mod Profile
+pub mod Block
+pub mod Examples

@@ -29,3 +29,23 @@ pub enum Outcome {
     TooManyLost,
     NoCodeword,
 }
+
+// What reading a profile answers: at every number but 0 the profile has all numbers zero and D +0.0.
+pub struct Reading {
+    pub number: u32,
+    pub profile: Profile,
+}
+
+// What writing a profile answers: zeros after the written bytes, and their count.
+pub struct Writing {
+    pub number: u32,
+    pub bytes: [u8; 245],
+    pub count: usize,
+}
+
+// What receiving answers: bit p of the lost mask and reason p are packet p's.
+pub struct Receipt {
+    pub number: u32,
+    pub lost: u16,
+    pub reasons: [u8; 16],
+}

@@ -1,0 +1,169 @@
+-- Document 01: the block that is sent, and the answer that receiving gives.
+use mathlib.Core.Path.{_≡_}
+use mathlib.Core.Bool.{Bool, true, false, not, _&&_}
+use mathlib.Core.List.{List}
+use Prim.Native.Nat.{ℕ, zero, suc, _+_, _-_, _*_, _/_, _%_, _^_, _<_, _≤_}
+use lib.Count.{ones}
+use lib.Dec.{eqb, ltb}
+use lib.Ieee.{Float}
+use lib.ListN.{length, getD, replicate}
+use Rattle.rules.specs.Bits.{pick, row, bitOf}
+use Rattle.rules.specs.Packet.{packetBit, checkWord}
+use Rattle.rules.specs.Outer.{encoded, Codeword, Agree, marked}
+use Rattle.rules.specs.Interleaver.{bitDeinterleaved}
+use Rattle.rules.specs.Turbo.{dataPlace}
+use Rattle.rules.specs.Slots.{rate, slotBits, packetBits, symbols, entered, coded, blockBit, symbolOf, slotNumber, scrambling}
+use Rattle.rules.specs.Points.{zeroPart, pointOf, firstPart, secondPart, doubtful, decide}
+use Rattle.rules.specs.Cells.{Carried, nothing, carries, carried, pointCell}
+use Rattle.rules.specs.Profile.{inRange}
+use Rattle.rules.specs.declared.Profile.{Profile}
+use Rattle.rules.specs.declared.Cell.{Cell}
+use Rattle.rules.specs.declared.Cell.the-variants.{Silent, Carries}
+use Rattle.rules.specs.declared.Receipt.{Receipt}
+
+-- ---- sending
+
+-- byte j of packet p of the block that K packets of data make
+abbrev pub packet : ℕ → List ℕ → ℕ → ℕ → ℕ
+packet k d p j = encoded (16 - k) (λ q. row d (122 * q + j)) p
+
+-- what is added to bit i of block slot t
+abbrev pub scrambler : Profile → ℕ → ℕ → ℕ
+scrambler P t i = scrambling (row (P .seeds) t) (row (P .masks) (slotNumber t)) i
+
+-- bit i of block slot t, scrambled
+unfoldable pub sentBit : Profile → List ℕ → ℕ → ℕ → ℕ
+sentBit P d t i = (blockBit (P .mode) (packet (P .k) d) (slotBits (P .mode) * t + i) + scrambler P t i) % 2
+
+abbrev pub cellFor : Profile → List ℕ → Carried → Cell
+cellFor P d nothing = Silent
+cellFor P d (carries t i) = Carries (pointOf (P .level) (sentBit P d t (2 * i)) (sentBit P d t (2 * i + 1)))
+
+-- cell c of a symbol
+abbrev pub sentCell : Profile → List ℕ → ℕ → ℕ → Cell
+sentCell P d symbol c = cellFor P d (carried (P .mode) symbol c)
+
+-- n symbols from the given one on, as two lists
+pub record Cells (P : Profile) (d : List ℕ) (from n : ℕ) (firsts seconds : List Float) : Type 0 where
+  pub firsts-long : length firsts ≡ 4096 * n
+  pub seconds-long : length seconds ≡ 4096 * n
+  pub firsts-are : (i : ℕ) → i < 4096 * n → getD firsts i zeroPart ≡ firstPart (sentCell P d (from + i / 4096) (i % 4096))
+  pub seconds-are : (i : ℕ) → i < 4096 * n → getD seconds i zeroPart ≡ secondPart (sentCell P d (from + i / 4096) (i % 4096))
+
+-- 4, 6, 7, the first that fits; else 0
+abbrev pub early : Profile → ℕ → ℕ → ℕ → ℕ → ℕ
+early P bytes firsts seconds cells =
+    pick (not (inRange P)) 4
+    (pick (not (eqb bytes (122 * P .k))) 6 (pick (not (eqb firsts cells && eqb seconds cells)) 7 0))
+
+-- what sending answers, and what the lists then hold
+pub record SendRule (P : Profile) (d : List ℕ) (firsts seconds firsts' seconds' : List Float) (number : ℕ) : Type 0 where
+  pub answer : number ≡ early P (length d) (length firsts) (length seconds) (4096 * symbols (P .mode))
+  pub cells : number ≡ 0 → Cells P d 0 (symbols (P .mode)) firsts' seconds'
+  pub kept : ¬ (number ≡ 0) → (firsts' ≡ firsts) × (seconds' ≡ seconds)
+
+-- the same for one symbol alone: 4, 6, 7, 8
+pub record SendSymbolRule (P : Profile) (d : List ℕ) (symbol : ℕ) (firsts seconds firsts' seconds' : List Float) (number : ℕ) : Type 0 where
+  pub answer : number
+      ≡ (let n = early P (length d) (length firsts) (length seconds) 4096 in
+      pick (eqb n 0) (pick (ltb symbol (symbols (P .mode))) 0 8) n)
+  pub cells : number ≡ 0 → Cells P d symbol 1 firsts' seconds'
+  pub kept : ¬ (number ≡ 0) → (firsts' ≡ firsts) × (seconds' ≡ seconds)
+
+-- ---- deciding
+
+-- bit i of block slot t as its cell decides, doubtful or unscrambled
+abbrev pub unscrambled : ℕ → ℕ → ℕ
+unscrambled b s = pick (eqb b doubtful) doubtful ((b + s) % 2)
+
+abbrev pub partOf : ℕ → List Float → List Float → ℕ → Float
+partOf i firsts seconds at = pick (eqb (i % 2) 0) (getD firsts at zeroPart) (getD seconds at zeroPart)
+
+unfoldable pub decidedSlot : Profile → List Float → List Float → ℕ → ℕ → ℕ
+decidedSlot P firsts seconds t i =
+    unscrambled (decide (partOf i firsts seconds (4096 * symbolOf t + pointCell t (i / 2)))) (scrambler P t i)
+
+-- bit g of the block
+abbrev pub decided : Profile → List Float → List Float → ℕ → ℕ
+decided P firsts seconds g = decidedSlot P firsts seconds (g / slotBits (P .mode)) (g % slotBits (P .mode))
+
+-- packet p's part of the block's decided bits
+abbrev pub packetPart : ℕ → (ℕ → ℕ) → ℕ → ℕ → ℕ
+packetPart m v p i = v (packetBits m * p + i)
+
+-- ---- judging one packet's decided bits v
+
+abbrev pub everyBelow : ℕ → (ℕ → Bool) → Bool
+everyBelow zero f = true
+everyBelow (suc n) f = everyBelow n f && f n
+
+-- the 994 decided bits that entered the encoder
+abbrev pub decidedData : ℕ → (ℕ → ℕ) → ℕ → ℕ
+decidedData m v i = v (bitDeinterleaved (packetBits m) (dataPlace (rate m) i))
+
+-- byte j of 8 bits each, highest bit first
+abbrev pub byteOf : (ℕ → ℕ) → ℕ → ℕ
+byteOf x j =
+    x (8 * j) * 128 + x (8 * j + 1) * 64 + x (8 * j + 2) * 32 + x (8 * j + 3) * 16
+    + x (8 * j + 4) * 8 + x (8 * j + 5) * 4 + x (8 * j + 6) * 2 + x (8 * j + 7)
+
+abbrev pub checkRight : (ℕ → ℕ) → Bool
+checkRight x = everyBelow 16 (λ i. eqb (x (976 + i)) (bitOf 16 (checkWord x 976) i))
+
+abbrev pub reservedRight : (ℕ → ℕ) → Bool
+reservedRight x = eqb (x 992) 0 && eqb (x 993) 0
+
+-- the reason of a packet that the caller has not marked and that has no doubtful bit: 13 check word, 14 reserved bits, 15 received coded bits
+-- differ from the packet's own, 0 accepted
+unfoldable pub judged : ℕ → (ℕ → ℕ) → ℕ
+judged m v =
+    pick (not (checkRight (decidedData m v))) 13
+    (pick (not (reservedRight (decidedData m v))) 14
+    (pick (not (everyBelow (packetBits m) (λ i. eqb (v i) (coded m (decidedData m v) i)))) 15 0))
+
+-- 11 marked by the caller, 12 a doubtful bit, then as above
+unfoldable pub reason : ℕ → ℕ → (ℕ → ℕ) → ℕ
+reason m mark v = pick (eqb mark 1) 11 (pick (not (everyBelow (packetBits m) (λ i. ltb (v i) doubtful))) 12 (judged m v))
+
+-- ---- receiving
+
+-- the mask of n packets with bit p set exactly when the reason isn't 0
+abbrev pub lostMask : ℕ → (ℕ → ℕ) → ℕ
+lostMask zero reasons = 0
+lostMask (suc n) reasons = lostMask n reasons + pick (eqb (reasons n) 0) 0 (2 ^ n)
+
+-- What the outer code makes of the block: kept p j is byte j of a packet p that isn't lost. At 0 the first K packets of the codewords that agree
+-- with every packet not lost are written; at 9 more than r are lost; at 10 some column has no such codeword.
+pub data Delivered (k lost : ℕ) (kept : ℕ → ℕ → ℕ) (before after : List ℕ) : ℕ → Type 0 where
+  whole : ones lost ≤ 16 - k
+      → (w : ℕ → ℕ → ℕ)
+      → ((j : ℕ) → j < 122 → Codeword (16 - k) (w j) × Agree lost (w j) (λ p. kept p j))
+      → length after ≡ 122 * k
+      → ((p j : ℕ) → p < k → j < 122 → row after (122 * p + j) ≡ w j p)
+      → Delivered k lost kept before after 0
+  tooMany : 16 - k < ones lost → after ≡ before → Delivered k lost kept before after 9
+  noCodeword : ones lost ≤ 16 - k
+      → (j : ℕ)
+      → j < 122
+      → ((c : ℕ → ℕ) → Codeword (16 - k) c → Agree lost c (λ p. kept p j) → ⊥)
+      → after ≡ before
+      → Delivered k lost kept before after 10
+
+-- what receiving answers for the decided bits v of a block
+pub record Judged (P : Profile) (marks : ℕ) (v : ℕ → ℕ) (before after : List ℕ) (a : Receipt) : Type 0 where
+  pub reasons-long : length (a .reasons) ≡ 16
+  pub reasons-are : (p : ℕ) → p < 16 → row (a .reasons) p ≡ reason (P .mode) (marked marks p) (packetPart (P .mode) v p)
+  pub lost-is : a .lost ≡ lostMask 16 (row (a .reasons))
+  pub delivered : Delivered (P .k) (a .lost) (λ p. byteOf (decidedData (P .mode) (packetPart (P .mode) v p))) before after (a .number)
+
+abbrev pub silence : ℕ → Receipt
+silence n = record { number = n; lost = 0; reasons = replicate 16 0 }
+
+-- what receiving answers, and what the room for the data then holds: 4, 6, 7, then the judgement
+pub record ReceiveRule (P : Profile) (marks : ℕ) (firsts seconds : List Float) (before after : List ℕ) (a : Receipt) : Type 0 where
+  pub refused : (n : ℕ)
+      → n ≡ early P (length before) (length firsts) (length seconds) (4096 * symbols (P .mode))
+      → ¬ (n ≡ 0)
+      → (a ≡ silence n) × (after ≡ before)
+  pub judged : early P (length before) (length firsts) (length seconds) (4096 * symbols (P .mode)) ≡ 0
+      → Judged P marks (decided P firsts seconds) before after a

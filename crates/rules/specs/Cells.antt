@@ -1,0 +1,57 @@
+-- Document 01, "Slots, scrambling, points": places, interlaces and cells; which point a cell carries.
+use mathlib.Core.Bool.{Bool, true, false, _&&_, _||_}
+use Prim.Native.Nat.{ℕ, suc, _+_, _-_, _*_, _/_, _%_}
+use lib.Dec.{eqb, leb, ltb}
+use Rattle.rules.specs.Bits.{pick}
+use Rattle.rules.specs.Slots.{slots, symbolOf, slotNumber}
+
+-- point i goes to place i of its interlace; and the point that is at a place
+abbrev pub placeOf : ℕ → ℕ
+placeOf i = i
+
+abbrev pub pointAt : ℕ → ℕ
+pointAt place = place
+
+-- slot number k uses interlace k in every symbol; and the slot number that an interlace serves, 0 where it is none of the slots 1 to 7
+abbrev pub interlaceOf : ℕ → ℕ → ℕ
+interlaceOf symbol k = k
+
+abbrev pub slotOf : ℕ → ℕ → ℕ
+slotOf symbol interlace = interlace
+
+-- Interlace k, place i, is cell 48 + k + 8i, but for k = 0 and i ≥ 250 it is 56 + 8i, so that 2048 stays unused
+abbrev pub cellOf : ℕ → ℕ → ℕ
+cellOf k i = pick (eqb k 0 && leb 250 i) (56 + 8 * i) (48 + k + 8 * i)
+
+-- the cell, in its symbol, of point i of block slot t
+abbrev pub pointCell : ℕ → ℕ → ℕ
+pointCell t i = cellOf (interlaceOf (symbolOf t) (slotNumber t)) (placeOf i)
+
+-- ---- the same read from the cell: proofs/Carried.antt shows that each of the two is the other's inverse
+
+-- what a cell belongs to: interlace k, place i; or to no interlace
+pub data Belongs : Type 0 where
+  outside : Belongs
+  place : ℕ → ℕ → Belongs
+
+unfoldable pub belongs : ℕ → Belongs
+belongs c =
+    pick (ltb c 48 || eqb c 2048 || ltb 4048 c) outside
+    (pick (eqb (c % 8) 0 && ltb 2048 c) (place 0 ((c - 56) / 8)) (place (c % 8) ((c - 48) / 8)))
+
+-- what a cell carries: nothing, or point i of block slot t
+pub data Carried : Type 0 where
+  nothing : Carried
+  carries : ℕ → ℕ → Carried
+
+abbrev pub carriedBy : ℕ → ℕ → ℕ → Carried
+carriedBy m t i = pick (ltb t (slots m)) (carries t i) nothing
+
+abbrev pub carriedAt : ℕ → ℕ → Belongs → Carried
+carriedAt m symbol outside = nothing
+carriedAt m symbol (place k i) =
+    pick (eqb (slotOf symbol k) 0) nothing (carriedBy m (7 * symbol + slotOf symbol k - 1) (pointAt i))
+
+-- cell c of a symbol, in mode m
+unfoldable pub carried : ℕ → ℕ → ℕ → Carried
+carried m symbol c = carriedAt m symbol (belongs c)
