@@ -9,7 +9,9 @@ pub struct Element(pub u8);
 
 impl Element {
     pub const ZERO: Element = Element(0);
+
     pub const ONE: Element = Element(1);
+
     pub const ALPHA: Element = Element(2);
 
     pub fn sum(self, other: Element) -> Element
@@ -24,7 +26,11 @@ impl Element {
     {
         let wide = (self.0 as u32) * 2;
         let low = (wide % 256) as u8;
-        if wide < 256 { Element(low) } else { Element(low ^ 29) }
+        if wide < 256 {
+            Element(low)
+        } else {
+            Element(low ^ 29)
+        }
     }
 
     // One bit at a time.
