@@ -2,7 +2,8 @@
 -- A row of bits, bytes or field elements is a function of the index, from 0.
 use mathlib.Core.Bool.{Bool, true, false}
 use mathlib.Core.List.{List}
-use Prim.Native.Nat.{ℕ, _+_, _-_, _*_, _/_, _%_, _^_}
+use Prim.Native.Nat.{ℕ, zero, suc, _+_, _-_, _*_, _/_, _%_, _^_}
+use lib.Dec.{eqb}
 use lib.ListN.{getD}
 
 abbrev pub pick : {A : Type 0} → Bool → A → A → A
@@ -20,3 +21,8 @@ bitOf w x i = x / 2 ^ (w - 1 - i) % 2
 -- Bytes go highest bit first: bit i of a row of bytes
 abbrev pub byteBit : (ℕ → ℕ) → ℕ → ℕ
 byteBit bytes i = bitOf 8 (bytes (i / 8)) (i % 8)
+
+-- in how many of the first n places two rows differ
+unfoldable pub differ : ℕ → (ℕ → ℕ) → (ℕ → ℕ) → ℕ
+differ zero x y = 0
+differ (suc n) x y = differ n x y + pick (eqb (x n) (y n)) 0 1

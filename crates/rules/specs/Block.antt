@@ -72,20 +72,22 @@ pub record SendSymbolRule (P : Profile) (d : List ℕ) (symbol : ℕ) (firsts se
 
 -- ---- deciding
 
--- bit i of block slot t as its cell decides, doubtful or unscrambled
-abbrev pub unscrambled : ℕ → ℕ → ℕ
-unscrambled b s = pick (eqb b doubtful) doubtful ((b + s) % 2)
-
 abbrev pub partOf : ℕ → List Float → List Float → ℕ → Float
 partOf i firsts seconds at = pick (eqb (i % 2) 0) (getD firsts at zeroPart) (getD seconds at zeroPart)
 
-unfoldable pub decidedSlot : Profile → List Float → List Float → ℕ → ℕ → ℕ
-decidedSlot P firsts seconds t i =
-    unscrambled (decide (partOf i firsts seconds (4096 * symbolOf t + pointCell t (i / 2)))) (scrambler P t i)
+-- bit i of block slot t as its cell decides, still scrambled
+unfoldable pub heard : List Float → List Float → ℕ → ℕ → ℕ
+heard firsts seconds t i = decide (partOf i firsts seconds (4096 * symbolOf t + pointCell t (i / 2)))
+
+-- doubtful, or unscrambled
+abbrev pub unscrambled : ℕ → ℕ → ℕ
+unscrambled b s = pick (eqb b doubtful) doubtful ((b + s) % 2)
 
 -- bit g of the block
-abbrev pub decided : Profile → List Float → List Float → ℕ → ℕ
-decided P firsts seconds g = decidedSlot P firsts seconds (g / slotBits (P .mode)) (g % slotBits (P .mode))
+unfoldable pub decided : Profile → List Float → List Float → ℕ → ℕ
+decided P firsts seconds g =
+    unscrambled (heard firsts seconds (g / slotBits (P .mode)) (g % slotBits (P .mode)))
+    (scrambler P (g / slotBits (P .mode)) (g % slotBits (P .mode)))
 
 -- packet p's part of the block's decided bits
 abbrev pub packetPart : ℕ → (ℕ → ℕ) → ℕ → ℕ → ℕ
@@ -121,9 +123,13 @@ judged m v =
     (pick (not (reservedRight (decidedData m v))) 14
     (pick (not (everyBelow (packetBits m) (λ i. eqb (v i) (coded m (decidedData m v) i)))) 15 0))
 
--- 11 marked by the caller, 12 a doubtful bit, then as above
+-- 12 a doubtful bit, then as above
+abbrev pub verdict : ℕ → (ℕ → ℕ) → ℕ
+verdict m v = pick (not (everyBelow (packetBits m) (λ i. ltb (v i) doubtful))) 12 (judged m v)
+
+-- 11 marked by the caller, then as above
 unfoldable pub reason : ℕ → ℕ → (ℕ → ℕ) → ℕ
-reason m mark v = pick (eqb mark 1) 11 (pick (not (everyBelow (packetBits m) (λ i. ltb (v i) doubtful))) 12 (judged m v))
+reason m mark v = pick (eqb mark 1) 11 (verdict m v)
 
 -- ---- receiving
 

@@ -45,9 +45,9 @@ examples =
     -- P2 turbo addresses for m = 0, 1, 2
     ∷ record { given = firstOf 3 (address 5 (row tableD)); said = 27 ∷ 515 ∷ 257 ∷ [] }
     -- P3 m = 31 gives 1005, skipped, so that the kept counters go from 30 to 32; m = 32 gives 22
-    ∷ record
-    { given = address 5 (row tableD) 31 ∷ counter 5 (row tableD) 994 30 ∷ counter 5 (row tableD) 994 31 ∷ address 5 (row tableD) 32 ∷ []
-    ; said = 1005 ∷ 30 ∷ 32 ∷ 22 ∷ []
+    ∷ record {
+      given = address 5 (row tableD) 31 ∷ counter 5 (row tableD) 994 30 ∷ counter 5 (row tableD) 994 31 ∷ address 5 (row tableD) 32 ∷ [];
+      said = 1005 ∷ 30 ∷ 32 ∷ 22 ∷ [];
     }
     -- P4 r = 2, only packet 13 is 01
     ∷ record { given = firstOf 2 (remainder 2 (only 13) 14); said = 0x49 ∷ 0x01 ∷ [] }
@@ -64,11 +64,11 @@ examples =
     -- P10 block slots 7 and 47: symbol and slot number
     ∷ record { given = symbolOf 7 ∷ slotNumber 7 ∷ symbolOf 47 ∷ slotNumber 47 ∷ []; said = 1 ∷ 1 ∷ 6 ∷ 6 ∷ [] }
     -- P11 (s0, s1) = (1, 0) is (-D, D), by their bits
-    ∷ record
-    { given = toBits binary32 (pointOf (ofBits binary32 someLevel) 1 0 .first)
-        ∷ toBits binary32 (pointOf (ofBits binary32 someLevel) 1 0 .second)
-        ∷ []
-    ; said = 0xBFC0_0000 ∷ 0x3FC0_0000 ∷ []
+    ∷ record {
+      given = toBits binary32 (pointOf (ofBits binary32 someLevel) 1 0 .first)
+          ∷ toBits binary32 (pointOf (ofBits binary32 someLevel) 1 0 .second)
+          ∷ [];
+      said = 0xBFC0_0000 ∷ 0x3FC0_0000 ∷ [];
     }
     -- P12 part -0.0
     ∷ record { given = decide (ofBits binary32 0x8000_0000) ∷ []; said = doubtful ∷ [] }

@@ -8,5 +8,7 @@ pub mod Slots
 pub mod Points
 pub mod Cells
 pub mod Profile
+pub mod Answers
 pub mod Block
+pub mod Demands
 pub mod Examples

@@ -62,47 +62,47 @@ pub record Field : Type 0 where
 
 abbrev pub fields : List Field
 fields =
-    record
-    { tag = 1
-    ; due = λ p. 32
-    ; with = λ p s. record { masks = words 8 s; level = p .level; mode = p .mode; k = p .k; seeds = p .seeds }
-    ; good = λ p. all in20 (p .masks)
-    ; bytes = λ p. allBytes (p .masks)
+    record {
+      tag = 1;
+      due = λ p. 32;
+      with = λ p s. record { masks = words 8 s; level = p .level; mode = p .mode; k = p .k; seeds = p .seeds };
+      good = λ p. all in20 (p .masks);
+      bytes = λ p. allBytes (p .masks);
     }
-    ∷ record
-    { tag = 2
-    ; due = λ p. 4
-    ; with = λ p s. record { masks = p .masks; level = ofBits binary32 (number s); mode = p .mode; k = p .k; seeds = p .seeds }
-    ; good = λ p. isLevel (p .level)
-    ; bytes = λ p. wordBytes (toBits binary32 (p .level))
+    ∷ record {
+      tag = 2;
+      due = λ p. 4;
+      with = λ p s. record { masks = p .masks; level = ofBits binary32 (number s); mode = p .mode; k = p .k; seeds = p .seeds };
+      good = λ p. isLevel (p .level);
+      bytes = λ p. wordBytes (toBits binary32 (p .level));
     }
-    ∷ record
-    { tag = 3
-    ; due = λ p. 1
-    ; with = λ p s. record { masks = p .masks; level = p .level; mode = number s; k = p .k; seeds = p .seeds }
-    ; good = λ p. isMode (p .mode)
-    ; bytes = λ p. p .mode ∷ []
+    ∷ record {
+      tag = 3;
+      due = λ p. 1;
+      with = λ p s. record { masks = p .masks; level = p .level; mode = number s; k = p .k; seeds = p .seeds };
+      good = λ p. isMode (p .mode);
+      bytes = λ p. p .mode ∷ [];
     }
-    ∷ record
-    { tag = 4
-    ; due = λ p. 1
-    ; with = λ p s. record { masks = p .masks; level = p .level; mode = p .mode; k = number s; seeds = p .seeds }
-    ; good = λ p. isK (p .k)
-    ; bytes = λ p. p .k ∷ []
+    ∷ record {
+      tag = 4;
+      due = λ p. 1;
+      with = λ p s. record { masks = p .masks; level = p .level; mode = p .mode; k = number s; seeds = p .seeds };
+      good = λ p. isK (p .k);
+      bytes = λ p. p .k ∷ [];
     }
-    ∷ record
-    { tag = 5
-    ; due = λ p. 4 * slots (p .mode)
-    ; with = λ p s.
-        record
-        { masks = p .masks
-        ; level = p .level
-        ; mode = p .mode
-        ; k = p .k
-        ; seeds = words (slots (p .mode)) s ++ replicate (48 - slots (p .mode)) 0
-        }
-    ; good = λ p. areSeeds (p .mode) (p .seeds)
-    ; bytes = λ p. allBytes (take (slots (p .mode)) (p .seeds))
+    ∷ record {
+      tag = 5;
+      due = λ p. 4 * slots (p .mode);
+      with = λ p s.
+          record {
+            masks = p .masks;
+            level = p .level;
+            mode = p .mode;
+            k = p .k;
+            seeds = words (slots (p .mode)) s ++ replicate (48 - slots (p .mode)) 0;
+          };
+      good = λ p. areSeeds (p .mode) (p .seeds);
+      bytes = λ p. allBytes (take (slots (p .mode)) (p .seeds));
     }
     ∷ []
 

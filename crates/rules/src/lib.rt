@@ -49,3 +49,17 @@ pub struct Receipt {
     pub lost: u16,
     pub reasons: [u8; 16],
 }
+
+// What coding one packet answers.
+pub enum Coding {
+    Coded,
+    WrongMode,
+    WrongLength,
+}
+
+// The judgement on one packet's decided bits: the reason (0 accepted, 12 a doubtful bit, 13 check word, 14 reserved bits, 15 coded bits
+// differ), and the bytes that its bits decide to where it is accepted, else zeros.
+pub struct Judgement {
+    pub reason: u8,
+    pub bytes: [u8; 122],
+}

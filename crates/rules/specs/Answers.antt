@@ -1,0 +1,28 @@
+-- Document 01, "What the desk says back": the numbers, and what each case of an answer that is an enum stands for.
+use mathlib.Core.Bool.{Bool, _||_, _&&_}
+use Prim.Native.Nat.{ℕ}
+use lib.Dec.{eqb, leb, ltb}
+use Rattle.rules.specs.declared.Outcome.{Outcome}
+use Rattle.rules.specs.declared.Outcome.the-variants.{Done, BadK, BadLength, TooManyLost, NoCodeword}
+use Rattle.rules.specs.declared.Coding.{Coding}
+use Rattle.rules.specs.declared.Coding.the-variants.{Coded, WrongMode, WrongLength}
+
+-- 0 done, 1 to 10 the refusals
+abbrev pub isNumber : ℕ → Bool
+isNumber n = leb n 10
+
+-- 0 accepted, 11 marked, 12 doubtful, 13 check word, 14 reserved bits, 15 coded bits differ
+abbrev pub isReason : ℕ → Bool
+isReason n = eqb n 0 || leb 11 n && leb n 15
+
+abbrev pub outcomeNumber : Outcome → ℕ
+outcomeNumber Done = 0
+outcomeNumber BadK = 4
+outcomeNumber BadLength = 6
+outcomeNumber TooManyLost = 9
+outcomeNumber NoCodeword = 10
+
+abbrev pub codingNumber : Coding → ℕ
+codingNumber Coded = 0
+codingNumber WrongMode = 4
+codingNumber WrongLength = 6

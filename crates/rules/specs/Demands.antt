@@ -1,0 +1,114 @@
+-- The founder's three sentences as propositions about the calls' rules. That every call comes back, with no `requires`, and answers by its rule is
+-- each function's own contract; card/proofs proves these.
+use mathlib.Core.Path.{_≡_}
+use mathlib.Core.Bool.{Bool}
+use mathlib.Core.List.{List}
+use mathlib.Core.Logic.{_⊎_, _↔_}
+use Prim.Native.Nat.{ℕ, _+_, _-_, _*_, _/_, _%_, _<_, _≤_}
+use lib.Count.{ones}
+use lib.Dec.{T}
+use lib.Ieee.{Float}
+use lib.ListN.{length}
+use Rattle.rules.specs.Bits.{row, differ}
+use Rattle.rules.specs.Packet.{packetBit}
+use Rattle.rules.specs.Outer.{marked}
+use Rattle.rules.specs.Slots.{slotBits, packetBits, symbols, coded}
+use Rattle.rules.specs.Points.{doubtful}
+use Rattle.rules.specs.Profile.{inRange, reading, writing, written, blank}
+use Rattle.rules.specs.Answers.{isNumber, isReason}
+use Rattle.rules.specs.Block.{packet, scrambler, sentBit, heard, SendRule, SendSymbolRule, ReceiveRule}
+use Rattle.rules.specs.declared.Profile.{Profile}
+use Rattle.rules.specs.declared.Reading.{Reading}
+use Rattle.rules.specs.declared.Writing.{Writing}
+use Rattle.rules.specs.declared.Receipt.{Receipt}
+
+-- ---- 1. Whatever arrives, the answer is a number from the table, and a refusal leaves the lent memory holding what it held
+
+pub record D1 : Type 0 where
+  pub send : (P : Profile) (d : List ℕ) (f s f' s' : List Float) (n : ℕ)
+      → SendRule P d f s f' s' n
+      → T (isNumber n) × (¬ (n ≡ 0) → (f' ≡ f) × (s' ≡ s))
+  pub send-symbol : (P : Profile) (d : List ℕ) (symbol : ℕ) (f s f' s' : List Float) (n : ℕ)
+      → SendSymbolRule P d symbol f s f' s' n
+      → T (isNumber n) × (¬ (n ≡ 0) → (f' ≡ f) × (s' ≡ s))
+  pub receive : (P : Profile) (marks : ℕ) (f s : List Float) (before after : List ℕ) (a : Receipt)
+      → ReceiveRule P marks f s before after a
+      → T (isNumber (a .number)) × ((p : ℕ) → p < 16 → T (isReason (row (a .reasons) p))) × (¬ (a .number ≡ 0) → after ≡ before)
+  pub read : (s : List ℕ) → T (isNumber (reading s .number)) × (¬ (reading s .number ≡ 0) → reading s .profile ≡ blank)
+  pub write : (P : Profile) → T (isNumber (writing P .number))
+
+-- ---- 2. Cell for cell, and accepted exactly when some packet has the bits that the cells decide to
+
+-- bit i, scrambled, of a packet with the bytes e that is sent in the place of packet p
+abbrev pub bitInPlace : Profile → (ℕ → ℕ) → ℕ → ℕ → ℕ
+bitInPlace P e p i =
+    (coded (P .mode) (packetBit e) i
+    + scrambler P ((packetBits (P .mode) * p + i) / slotBits (P .mode)) ((packetBits (P .mode) * p + i) % slotBits (P .mode))) % 2
+
+-- what the cells of packet p decide to
+abbrev pub heardInPlace : Profile → List Float → List Float → ℕ → ℕ → ℕ
+heardInPlace P f s p i =
+    heard f s ((packetBits (P .mode) * p + i) / slotBits (P .mode)) ((packetBits (P .mode) * p + i) % slotBits (P .mode))
+
+-- some packet, sent by the rules in the same place with the same profile, has the bits that its cells decide to, none doubtful
+abbrev pub SomePacket : Profile → List Float → List Float → ℕ → Type 0
+SomePacket P f s p =
+    (e : ℕ → ℕ) × ((j : ℕ) → j < 122 → e j < 256)
+    × ((i : ℕ) → i < packetBits (P .mode) → heardInPlace P f s p i ≡ bitInPlace P e p i)
+
+pub record D2 : Type 0 where
+  -- the rule of sending leaves one answer only
+  pub one-grid : (P : Profile) (d : List ℕ) (f s f' s' f'' s'' : List Float) (n m : ℕ)
+      → SendRule P d f s f' s' n
+      → SendRule P d f s f'' s'' m
+      → (n ≡ m) × (f' ≡ f'') × (s' ≡ s'')
+  -- receiving, if it reads the cells, accepts an unmarked packet exactly when there is such a packet
+  pub accepts : (P : Profile) (marks : ℕ) (f s : List Float) (before after : List ℕ) (a : Receipt)
+      → ReceiveRule P marks f s before after a
+      → T (inRange P)
+      → length before ≡ 122 * P .k
+      → length f ≡ 4096 * symbols (P .mode)
+      → length s ≡ 4096 * symbols (P .mode)
+      → (p : ℕ)
+      → p < 16
+      → marked marks p ≡ 0
+      → (row (a .reasons) p ≡ 0) ↔ SomePacket P f s p
+  -- a profile is read and written by the same rules: reading what was written gives the value back, and what reads well is what is written
+  pub read-written : (P : Profile) → T (inRange P) → reading (written P) ≡ record { number = 0; profile = P }
+  pub written-read : (s : List ℕ) → ((i : ℕ) → row s i < 256) → reading s .number ≡ 0 → T (inRange (reading s .profile)) × (written (reading s .profile) ≡ s)
+
+-- ---- 3. The lost set exactly; at most r lost come back, more are refused
+
+-- what is sent for packet p of the block that carries d
+abbrev pub sentInPlace : Profile → List ℕ → ℕ → ℕ → ℕ
+sentInPlace P d p i =
+    sentBit P d ((packetBits (P .mode) * p + i) / slotBits (P .mode)) ((packetBits (P .mode) * p + i) % slotBits (P .mode))
+
+-- packet p has a doubtful part in its own cells
+abbrev pub Doubtful : Profile → List Float → List Float → ℕ → Type 0
+Doubtful P f s p = (i : ℕ) × (i < packetBits (P .mode)) × (heardInPlace P f s p i ≡ doubtful)
+
+-- it is wrong in some bit
+abbrev pub Wrong : Profile → List ℕ → List Float → List Float → ℕ → Type 0
+Wrong P d f s p = (i : ℕ) × (i < packetBits (P .mode)) × (¬ (heardInPlace P f s p i ≡ sentInPlace P d p i))
+
+abbrev pub Lost : Profile → ℕ → List ℕ → List Float → List Float → ℕ → Type 0
+Lost P marks d f s p = (marked marks p ≡ 1) ⊎ (Doubtful P f s p ⊎ Wrong P d f s p)
+
+pub record D3 : Type 0 where
+  pub sent-and-received : (P : Profile) (d : List ℕ) (marks : ℕ) (f s : List Float) (before after : List ℕ) (a : Receipt)
+      → T (inRange P)
+      → length d ≡ 122 * P .k
+      → ((i : ℕ) → row d i < 256)
+      → length before ≡ 122 * P .k
+      → length f ≡ 4096 * symbols (P .mode)
+      → length s ≡ 4096 * symbols (P .mode)
+      -- each packet is marked, or has doubtful parts, or at most three bits decided wrongly
+      → ((p : ℕ)
+      → p < 16
+      → (marked marks p ≡ 1)
+      ⊎ (Doubtful P f s p ⊎ (differ (packetBits (P .mode)) (heardInPlace P f s p) (sentInPlace P d p) ≤ 3)))
+      → ReceiveRule P marks f s before after a
+      → ((p : ℕ) → p < 16 → (marked (a .lost) p ≡ 1) ↔ Lost P marks d f s p)
+      × (ones (a .lost) ≤ 16 - P .k → (a .number ≡ 0) × (after ≡ d))
+      × (16 - P .k < ones (a .lost) → (a .number ≡ 9) × (after ≡ before))
