@@ -14,9 +14,11 @@ use Rattle.rules.specs.Interleaver.{bitDeinterleaved}
 use Rattle.rules.specs.Turbo.{dataPlace}
 use Rattle.rules.specs.Slots.{rate, slotBits, packetBits, symbols, entered, coded, blockBit, symbolOf, slotNumber, scrambling}
 use Rattle.rules.specs.Points.{zeroPart, pointOf, firstPart, secondPart, doubtful, decide}
-use Rattle.rules.specs.Cells.{Carried, nothing, carries, carried, pointCell}
+use Rattle.rules.specs.Cells.{carried, pointCell}
 use Rattle.rules.specs.Profile.{inRange}
 use Rattle.rules.specs.declared.Profile.{Profile}
+use Rattle.rules.specs.declared.Carried.{Carried}
+use Rattle.rules.specs.declared.Carried.the-variants.{Nothing, PointOf}
 use Rattle.rules.specs.declared.Cell.{Cell}
 use Rattle.rules.specs.declared.Cell.the-variants.{Silent, Carries}
 use Rattle.rules.specs.declared.Receipt.{Receipt}
@@ -35,13 +37,14 @@ scrambler P t i = scrambling (row (P .seeds) t) (row (P .masks) (slotNumber t)) 
 unfoldable pub sentBit : Profile → List ℕ → ℕ → ℕ → ℕ
 sentBit P d t i = (blockBit (P .mode) (packet (P .k) d) (slotBits (P .mode) * t + i) + scrambler P t i) % 2
 
-abbrev pub cellFor : Profile → List ℕ → Carried → Cell
-cellFor P d nothing = Silent
-cellFor P d (carries t i) = Carries (pointOf (P .level) (sentBit P d t (2 * i)) (sentBit P d t (2 * i + 1)))
+-- the cell that carries a point of the scrambled bits: bit 2i of slot t is s0 and bit 2i + 1 is s1 of its point i
+abbrev pub cellFor : Float → (ℕ → ℕ → ℕ) → Carried → Cell
+cellFor level bits Nothing = Silent
+cellFor level bits (PointOf t i) = Carries (pointOf level (bits t (2 * i)) (bits t (2 * i + 1)))
 
 -- cell c of a symbol
 abbrev pub sentCell : Profile → List ℕ → ℕ → ℕ → Cell
-sentCell P d symbol c = cellFor P d (carried (P .mode) symbol c)
+sentCell P d symbol c = cellFor (P .level) (sentBit P d) (carried (P .mode) symbol c)
 
 -- n symbols from the given one on, as two lists
 pub record Cells (P : Profile) (d : List ℕ) (from n : ℕ) (firsts seconds : List Float) : Type 0 where

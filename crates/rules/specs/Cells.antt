@@ -4,6 +4,8 @@ use Prim.Native.Nat.{ℕ, suc, _+_, _-_, _*_, _/_, _%_}
 use lib.Dec.{eqb, leb, ltb}
 use Rattle.rules.specs.Bits.{pick}
 use Rattle.rules.specs.Slots.{slots, symbolOf, slotNumber}
+use Rattle.rules.specs.declared.Carried.{Carried}
+use Rattle.rules.specs.declared.Carried.the-variants.{Nothing, PointOf}
 
 -- point i goes to place i of its interlace; and the point that is at a place
 abbrev pub placeOf : ℕ → ℕ
@@ -27,7 +29,7 @@ cellOf k i = pick (eqb k 0 && leb 250 i) (56 + 8 * i) (48 + k + 8 * i)
 abbrev pub pointCell : ℕ → ℕ → ℕ
 pointCell t i = cellOf (interlaceOf (symbolOf t) (slotNumber t)) (placeOf i)
 
--- ---- the same read from the cell: proofs/Carried.antt shows that each of the two is the other's inverse
+-- ---- the same read from the cell: crates/cells/proofs/Carried.antt shows that each of the two is the other's inverse
 
 -- what a cell belongs to: interlace k, place i; or to no interlace
 pub data Belongs : Type 0 where
@@ -40,17 +42,13 @@ belongs c =
     (pick (eqb (c % 8) 0 && ltb 2048 c) (place 0 ((c - 56) / 8)) (place (c % 8) ((c - 48) / 8)))
 
 -- what a cell carries: nothing, or point i of block slot t
-pub data Carried : Type 0 where
-  nothing : Carried
-  carries : ℕ → ℕ → Carried
-
 abbrev pub carriedBy : ℕ → ℕ → ℕ → Carried
-carriedBy m t i = pick (ltb t (slots m)) (carries t i) nothing
+carriedBy m t i = pick (ltb t (slots m)) (PointOf t i) Nothing
 
 abbrev pub carriedAt : ℕ → ℕ → Belongs → Carried
-carriedAt m symbol outside = nothing
+carriedAt m symbol outside = Nothing
 carriedAt m symbol (place k i) =
-    pick (eqb (slotOf symbol k) 0) nothing (carriedBy m (7 * symbol + slotOf symbol k - 1) (pointAt i))
+    pick (eqb (slotOf symbol k) 0) Nothing (carriedBy m (7 * symbol + slotOf symbol k - 1) (pointAt i))
 
 -- cell c of a symbol, in mode m
 unfoldable pub carried : ℕ → ℕ → ℕ → Carried

@@ -12,6 +12,12 @@ pub enum Cell {
     Carries(Point),
 }
 
+// What a cell carries: nothing, or a point of a block slot, by the slot's and the point's number.
+pub enum Carried {
+    Nothing,
+    PointOf(usize, usize),
+}
+
 // The profile as a value: the unused seeds are zero.
 pub struct Profile {
     pub masks: [u32; 8],

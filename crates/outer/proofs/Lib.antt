@@ -1,0 +1,5 @@
+pub mod Lagrange
+pub mod Ones
+pub mod Poly
+pub mod Roots
+pub mod Solve
