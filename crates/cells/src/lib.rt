@@ -25,7 +25,10 @@ pub fn point_of(level: f32, s0: u8, s1: u8) -> Point
     requires { ⌜ (s0 < 2) × (s1 < 2) ⌝ }
     ensures { λ r. ⌜ r ≡ pointOf level s0 s1 ⌝ }
 {
-    Point { first: level, second: level }
+    Point {
+        first: level,
+        second: level,
+    }
 }
 
 pub fn decide(part: f32) -> u8
@@ -37,7 +40,10 @@ pub fn decide(part: f32) -> u8
 pub fn decide_point(p: Point) -> Decision
     ensures { λ r. ⌜ (r .s0 ≡ points.decide (p .first)) × (r .s1 ≡ points.decide (p .second)) ⌝ }
 {
-    Decision { s0: decide(p.first), s1: decide(p.second) }
+    Decision {
+        s0: decide(p.first),
+        s1: decide(p.second),
+    }
 }
 
 // What cell c of a symbol carries.
@@ -57,12 +63,18 @@ pub fn cell_at(mode: u8, level: f32, bits: &[u8], symbol: usize, c: usize) -> Ce
 }
 
 // One symbol's 4096 cells, in rising order.
-pub fn write_symbol(mode: u8, level: f32, bits: &[u8], symbol: usize, firsts: &mut [f32], seconds: &mut [f32])
+pub fn write_symbol(
+    mode: u8,
+    level: f32,
+    bits: &[u8],
+    symbol: usize,
+    firsts: &mut [f32],
+    seconds: &mut [f32],
+)
     requires { ⌜ T (isMode mode) × (symbol < 4096) × (length (now bits) ≡ slotBits mode * slots mode) × Bits (now bits)
         × (length (now firsts) ≡ 4096) × (length (now seconds) ≡ 4096) ⌝ }
     ensures { λ _. ⌜ Written mode level (now (bits .entry)) symbol (now (firsts .exit)) (now (seconds .exit)) ⌝ }
-{
-}
+{}
 
 // The decisions of one symbol's own cells, put to their places among the block's bits; the other bits stay.
 pub fn read_symbol(mode: u8, symbol: usize, firsts: &[f32], seconds: &[f32], decided: &mut [u8])
@@ -70,5 +82,4 @@ pub fn read_symbol(mode: u8, symbol: usize, firsts: &[f32], seconds: &[f32], dec
         × (length (now decided) ≡ slotBits mode * slots mode) ⌝ }
     ensures { λ _. ⌜ Holds 0 (slotBits mode * slots mode)
         (decidedIn mode symbol (now (firsts .entry)) (now (seconds .entry)) (now (decided .entry))) (now (decided .exit)) ⌝ }
-{
-}
+{}

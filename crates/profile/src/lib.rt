@@ -18,7 +18,13 @@ pub fn read(bytes: &[u8]) -> Reading
 {
     Reading {
         number: 5,
-        profile: Profile { masks: [0u32; 8], level: 0.0, mode: 0, k: 0, seeds: [0u32; 48] },
+        profile: Profile {
+            masks: [0u32; 8],
+            level: 0.0,
+            mode: 0,
+            k: 0,
+            seeds: [0u32; 48],
+        },
     }
 }
 
@@ -26,5 +32,9 @@ pub fn read(bytes: &[u8]) -> Reading
 pub fn write(p: Profile) -> Writing
     ensures { λ r. ⌜ r ≡ writing p ⌝ }
 {
-    Writing { number: 4, bytes: [0u8; 245], count: 0 }
+    Writing {
+        number: 4,
+        bytes: [0u8; 245],
+        count: 0,
+    }
 }

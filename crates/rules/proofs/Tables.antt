@@ -2,15 +2,14 @@
 use mathlib.Core.Path.{_≡_, refl}
 use mathlib.Core.Bool.{Bool, true, false, _&&_, Bool·beq}
 use mathlib.Core.List.{List, [], _∷_}
-use Prim.Native.Nat.{ℕ, zero, suc, _+_, _-_, _/_}
+use Prim.Native.Nat.{ℕ, zero, suc, _+_, _-_, _*_, _/_}
 use lib.Dec.{T, eqb, leb, ltb}
-use Rattle.rules.specs.Bits.{pick, row, byteBit}
+use Rattle.rules.specs.Bits.{pick, row, bitOf, byteBit}
 use Rattle.rules.specs.Packet.{checkStep, checkRegister, checkWord}
 use Rattle.rules.specs.Field.{_⊗_, double, times, alpha}
 use Rattle.rules.specs.Outer.{generator, value}
 use Rattle.rules.specs.Interleaver.{tableD}
-use Rattle.rules.specs.Turbo.{half, third, state, ending, codedBit, codedLength}
-use Rattle.rules.specs.Examples.{firstOf}
+use Rattle.rules.specs.Turbo.{Rate, half, third, state, ending, codedBit, codedLength}
 
 -- the generator with its first coefficient, that of x^r
 unfoldable pub monic : ℕ → ℕ → ℕ
@@ -39,20 +38,23 @@ pub tableD-checked : checkWord (byteBit (row tableD)) 256 ≡ 0x8AAE
 unfolding checkWord checkRegister checkStep
 tableD-checked = refl
 
--- The patterns of both rates: six bits, with a second row of six others in place of the interleaved ones, give what a program outside gives
-abbrev pub someBits : ℕ → ℕ
-someBits = row (1 ∷ 0 ∷ 1 ∷ 1 ∷ 0 ∷ 1 ∷ [])
+-- the number whose bits, highest first, are the first n of a row
+abbrev pub asNumber : ℕ → (ℕ → ℕ) → ℕ
+asNumber zero f = 0
+asNumber (suc n) f = asNumber n f * 2 + f n
 
-abbrev pub otherBits : ℕ → ℕ
-otherBits = row (0 ∷ 1 ∷ 1 ∷ 1 ∷ 1 ∷ 0 ∷ [])
+-- what is sent at a rate for four bits, with four others in place of the interleaved ones
+abbrev pub sentFour : Rate → ℕ → ℕ → ℕ
+sentFour R x x' = asNumber (codedLength R 4) (codedBit R (bitOf 4 x) (bitOf 4 x') 4)
 
-pub half-sent : firstOf (codedLength half 6) (codedBit half someBits otherBits 6)
-    ≡ 1 ∷ 1 ∷ 0 ∷ 1 ∷ 1 ∷ 0 ∷ 1 ∷ 1 ∷ 0 ∷ 0 ∷ 1 ∷ 1 ∷ 0 ∷ 1 ∷ 1 ∷ 0 ∷ 1 ∷ 1 ∷ 1 ∷ 1 ∷ 0 ∷ 1 ∷ 1 ∷ 1 ∷ []
+-- The patterns and tails of both rates, against a program outside. These four pairs of rows tell any entry from any other that could stand
+-- in its place, but for the ending period 2, where X and Y0 are the same bit by the circuit
+pub half-sent : sentFour half 0b0100 0b1110 ∷ sentFour half 0b0010 0b0111 ∷ sentFour half 0b0000 0b0011 ∷ sentFour half 0b0001 0b0001 ∷ []
+    ≡ 0x25AF0 ∷ 0x1DB1C ∷ 0x37 ∷ 0x36DB ∷ []
 unfolding codedBit state ending
 half-sent = refl
 
-pub third-sent : firstOf (codedLength third 6) (codedBit third someBits otherBits 6)
-    ≡ 1 ∷ 1 ∷ 0 ∷ 0 ∷ 1 ∷ 1 ∷ 1 ∷ 0 ∷ 0 ∷ 1 ∷ 1 ∷ 1 ∷ 0 ∷ 0 ∷ 0 ∷ 1 ∷ 1 ∷ 1
-    ∷ 0 ∷ 0 ∷ 1 ∷ 1 ∷ 1 ∷ 0 ∷ 1 ∷ 1 ∷ 1 ∷ 1 ∷ 1 ∷ 1 ∷ 0 ∷ 0 ∷ 1 ∷ 1 ∷ 1 ∷ 1 ∷ []
+pub third-sent : sentFour third 0b0100 0b1110 ∷ sentFour third 0b0010 0b0111 ∷ sentFour third 0b0000 0b0011 ∷ sentFour third 0b0001 0b0001 ∷ []
+    ≡ 0xE6F6FC0 ∷ 0x1CF7078 ∷ 0x2001CF ∷ 0x1CEE77 ∷ []
 unfolding codedBit state ending
 third-sent = refl

@@ -9,7 +9,7 @@ use Rattle.rules.specs.Outer.{remainder}
 use Rattle.rules.specs.Interleaver.{tableD, address, counter, bitInterleaved}
 use Rattle.rules.specs.Turbo.{y0}
 use Rattle.rules.specs.Slots.{scrambling, symbolOf, slotNumber}
-use Rattle.rules.specs.Points.{pointOf, decide, doubtful}
+use Rattle.rules.specs.Points.{pointOf, decide}
 use Rattle.rules.specs.Cells.{cellOf}
 
 -- f 0, .., f (n - 1)
@@ -70,6 +70,6 @@ examples =
           ∷ [];
       said = 0xBFC0_0000 ∷ 0x3FC0_0000 ∷ [];
     }
-    -- P12 part -0.0
-    ∷ record { given = decide (ofBits binary32 0x8000_0000) ∷ []; said = doubtful ∷ [] }
+    -- P12 part -0.0: doubtful
+    ∷ record { given = decide (ofBits binary32 0x8000_0000) ∷ []; said = 2 ∷ [] }
     ∷ []

@@ -11,5 +11,4 @@ ghost use Rattle.laws.specs.Holds.{Holds};
 pub fn scramble(seed: u32, mask: u32, bits: &mut [u8])
     requires { ⌜ (seed < 2 ^ 20) × (mask < 2 ^ 20) × ((i : ℕ) → row (now bits) i < 3) ⌝ }
     ensures { λ _. ⌜ Holds 0 (length (now (bits .entry))) (λ i. unscrambled (row (now (bits .entry)) i) (scrambling seed mask i)) (now (bits .exit)) ⌝ }
-{
-}
+{}
