@@ -1,4 +1,4 @@
--- What a list holds, place by place: a loop that stores one element a turn says by `Holds` what stands where, and `stored` is its turn.
+-- What a list holds, place by place: a loop says by `Holds` what stands where; `holds-put` is a store.
 use mathlib.Core.Path.{_≡_, refl, sym, _∙_, subst}
 use mathlib.Core.Bool.{Bool}
 use mathlib.Core.List.{List}

@@ -1,3 +1,4 @@
 pub mod Holds
 pub mod Rows
 pub mod Every
+pub mod Fill

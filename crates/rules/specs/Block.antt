@@ -4,7 +4,7 @@ use mathlib.Core.Bool.{Bool, true, false, not, _&&_}
 use mathlib.Core.List.{List}
 use Prim.Native.Nat.{ℕ, zero, suc, _+_, _-_, _*_, _/_, _%_, _^_, _<_, _≤_}
 use lib.Count.{ones}
-use lib.Dec.{eqb, ltb}
+use lib.Dec.{T, eqb, ltb}
 use lib.Ieee.{Float}
 use lib.ListN.{length, getD, replicate}
 use Rattle.rules.specs.Bits.{pick, row, bitOf}
@@ -12,7 +12,7 @@ use Rattle.rules.specs.Packet.{packetBit, checkWord}
 use Rattle.rules.specs.Outer.{encoded, Codeword, Agree, marked}
 use Rattle.rules.specs.Interleaver.{bitDeinterleaved}
 use Rattle.rules.specs.Turbo.{dataPlace}
-use Rattle.rules.specs.Slots.{rate, slotBits, packetBits, symbols, entered, coded, blockBit, symbolOf, slotNumber, scrambling}
+use Rattle.rules.specs.Slots.{rate, slotBits, packetBits, slots, symbols, entered, coded, blockBit, symbolOf, slotNumber, scrambling}
 use Rattle.rules.specs.Points.{zeroPart, pointOf, firstPart, secondPart, doubtful, decide}
 use Rattle.rules.specs.Cells.{carried, pointCell}
 use Rattle.rules.specs.Profile.{inRange}
@@ -176,3 +176,38 @@ pub record ReceiveRule (P : Profile) (marks : ℕ) (firsts seconds : List Float)
       → (a ≡ silence n) × (after ≡ before)
   pub judged : early P (length before) (length firsts) (length seconds) (4096 * symbols (P .mode)) ≡ 0
       → Judged P marks (decided P firsts seconds) before after a
+
+-- ---- the same symbol by symbol: bits are lent as 48000 numbers, those past the block's unused
+
+-- one symbol's cells are heard into the block's bits: 4, 7, 8
+pub record HearRule (P : Profile) (symbol : ℕ) (firsts seconds : List Float) (before after : List ℕ) (number : ℕ) : Type 0 where
+  pub answer : number
+      ≡ pick (not (inRange P)) 4
+      (pick (not (eqb (length firsts) 4096 && eqb (length seconds) 4096)) 7 (pick (ltb symbol (symbols (P .mode))) 0 8))
+  pub long : length after ≡ length before
+  pub own : number ≡ 0
+      → (t i : ℕ)
+      → t < slots (P .mode)
+      → i < slotBits (P .mode)
+      → symbolOf t ≡ symbol
+      → row after (slotBits (P .mode) * t + i) ≡ decide (partOf i firsts seconds (pointCell t (i / 2)))
+  pub others : number ≡ 0
+      → (t i : ℕ)
+      → t < slots (P .mode)
+      → i < slotBits (P .mode)
+      → ¬ (symbolOf t ≡ symbol)
+      → row after (slotBits (P .mode) * t + i) ≡ row before (slotBits (P .mode) * t + i)
+  pub kept : ¬ (number ≡ 0) → after ≡ before
+
+-- bit g of the block from what was heard
+abbrev pub understood : Profile → List ℕ → ℕ → ℕ
+understood P bits g =
+    unscrambled (row bits g) (scrambler P (g / slotBits (P .mode)) (g % slotBits (P .mode)))
+
+-- once all symbols have been heard: 4, 6, then the judgement
+pub record ConcludeRule (P : Profile) (marks : ℕ) (bits before after : List ℕ) (a : Receipt) : Type 0 where
+  pub refused : (n : ℕ)
+      → n ≡ pick (not (inRange P)) 4 (pick (eqb (length before) (122 * P .k)) 0 6)
+      → ¬ (n ≡ 0)
+      → (a ≡ silence n) × (after ≡ before)
+  pub judged : T (inRange P) → length before ≡ 122 * P .k → Judged P marks (understood P bits) before after a

@@ -1,0 +1,5 @@
+pub mod Test
+pub mod Count
+pub mod Odd
+pub mod OneToOne
+pub mod Interleaving
