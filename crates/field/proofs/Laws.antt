@@ -13,22 +13,9 @@ use lib.Bits.{xor-shr, xor-add-and, xor-mod, xor-block, xor-comm, xor-self, xor-
 use lib.Pow.{pow-pos, pow-add, split, shr-lt}
 use lib.Dec.{T, T-not, eqb, eqb→eq, lit<}
 use lib.Ieee.Fits.{and-l, and-r, eq→eqb}
+use Rattle.rules.specs.Bits.{everyBelow}
+use Rattle.laws.specs.Every.{every-at}
 use Rattle.rules.specs.Field.{_⊕_, _⊗_, double, times, power, alpha, inverse, polynomial}
-
--- ---- a computed test of the numbers below n
-
-every : (ℕ → Bool) → ℕ → Bool
-every p zero = true
-every p (suc n) = p n && every p n
-
-all : (p : ℕ → Bool) (n : ℕ) → T (every p n) → (i : ℕ) → i < n → T (p i)
-unfolding every
-all p zero t i h = absurd (omega arith)
-all p (suc n) t i h = go (ℕ-discrete i n) (λ lt. all p n (and-r (p n) (every p n) t) i lt)
-  where
-    go : Dec (i ≡ n) → (i < n → T (p i)) → T (p i)
-    go (yes e) f = rw e (and-l (p n) (every p n) t)
-    go (no ne) f = f (omega arith)
 
 -- what holds of 0 and 1 holds of each number below 2, and of each digit
 below-two : (P : ℕ → Type 0) → P 0 → P 1 → (x : ℕ) → x < 2 → P x
@@ -165,15 +152,15 @@ unfolding _⊗_
 -- ---- the product's laws
 
 -- additive functions agree on elements if they do at 1, 2 .. 128
-agree : (f g : ℕ → ℕ) → Additive f → Additive g → T (every (λ i. eqb (f (2 ^ i)) (g (2 ^ i))) 8) → (a : ℕ) → a < 256 → f a ≡ g a
-agree f g hf hg t = from-powers f g hf hg 8 (λ i h. eqb→eq _ _ (all (λ i. eqb (f (2 ^ i)) (g (2 ^ i))) 8 t i h))
+agree : (f g : ℕ → ℕ) → Additive f → Additive g → T (everyBelow 8 (λ i. eqb (f (2 ^ i)) (g (2 ^ i)))) → (a : ℕ) → a < 256 → f a ≡ g a
+agree f g hf hg t = from-powers f g hf hg 8 (λ i h. eqb→eq _ _ (every-at 8 (λ i. eqb (f (2 ^ i)) (g (2 ^ i))) t i h))
 
 pub ⊗-one-l : (a : ℕ) → a < 256 → 1 ⊗ a ≡ a
-unfolding every _⊗_ times double
+unfolding _⊗_ times double
 ⊗-one-l = agree (_⊗_ 1) (λ x. x) (⊗-⊕-l 1) (λ x y. refl) tt
 
 pub double-is : (a : ℕ) → a < 256 → double a ≡ 2 ⊗ a
-unfolding every _⊗_ times double
+unfolding _⊗_ times double
 double-is = agree double (_⊗_ 2) double-additive (⊗-⊕-l 2) tt
 
 -- what is not below 256 counts as its remainder
@@ -181,14 +168,14 @@ double-is = agree double (_⊗_ 2) double-additive (⊗-⊕-l 2) tt
 unfolding _⊗_
 ⊗-mod a b = simp mod-mod
 
-comm-test : T (every (λ j. every (λ i. eqb (2 ^ i ⊗ 2 ^ j) (2 ^ j ⊗ 2 ^ i)) 8) 8)
-unfolding every _⊗_ times double
+comm-test : T (everyBelow 8 (λ j. everyBelow 8 (λ i. eqb (2 ^ i ⊗ 2 ^ j) (2 ^ j ⊗ 2 ^ i))))
+unfolding _⊗_ times double
 comm-test = tt
 
 comm-below : (a b : ℕ) → a < 256 → b < 256 → a ⊗ b ≡ b ⊗ a
 comm-below a b ha =
     from-powers (_⊗_ a) (λ x. x ⊗ a) (⊗-⊕-l a) (λ x y. ⊗-⊕-r x y a) 8
-    (λ j hj. agree (λ x. x ⊗ 2 ^ j) (_⊗_ (2 ^ j)) (λ x y. ⊗-⊕-r x y (2 ^ j)) (⊗-⊕-l (2 ^ j)) (all _ 8 comm-test j hj) a ha) b
+    (λ j hj. agree (λ x. x ⊗ 2 ^ j) (_⊗_ (2 ^ j)) (λ x y. ⊗-⊕-r x y (2 ^ j)) (⊗-⊕-l (2 ^ j)) (every-at 8 (λ j. everyBelow 8 (λ i. eqb (2 ^ i ⊗ 2 ^ j) (2 ^ j ⊗ 2 ^ i))) comm-test j hj) a ha) b
 
 pub ⊗-comm : (a b : ℕ) → a ⊗ b ≡ b ⊗ a
 ⊗-comm a b = sym (⊗-mod a b) ∙ comm-below (a % 256) (b % 256) (omega arith) (omega arith) ∙ ⊗-mod b a
@@ -298,16 +285,16 @@ found a zero k t = absurd t
 found a (suc n) k t = either (eqb a (alpha k)) _ (λ e. (k, eqb→eq a (alpha k) e)) (found a n (suc k)) t
 
 all-among : List ℕ → Bool
-all-among l = every (λ i. among (suc i) l) 255
+all-among l = everyBelow 255 (λ i. among (suc i) l)
 
 orbit-test : T (all-among (orbit 255 1))
-unfolding all-among every among orbit double
+unfolding all-among among orbit double
 orbit-test = tt
 
 log : (a : ℕ) → a < 256 → ¬ (a ≡ 0) → (k : ℕ) × (a ≡ alpha k)
 unfolding all-among alpha
 log zero h ne = absurd (ne refl)
-log (suc a) h ne = found (suc a) 255 0 (all (λ i. among (suc i) (orbit 255 1)) 255 orbit-test a (omega arith))
+log (suc a) h ne = found (suc a) 255 0 (every-at 255 (λ i. among (suc i) (orbit 255 1)) orbit-test a (omega arith))
 
 -- the power 255 of a power of α, with one factor apart
 alpha-inverse : (k : ℕ) → alpha k ⊗ power (alpha k) 254 ≡ 1
@@ -319,14 +306,14 @@ alpha-nonzero k e = omega (arith, sym (⊗-zero-l (power (alpha k) 254)) ∙ ap 
 abbrev apart : ℕ → ℕ → Bool
 apart i j = eqb i j || not (eqb (alpha i) (alpha j))
 
-apart-test : T (every (λ i. every (apart i) 16) 16)
-unfolding every alpha double
+apart-test : T (everyBelow 16 (λ i. everyBelow 16 (apart i)))
+unfolding alpha double
 apart-test = tt
 
 pub alpha-distinct : (i j : ℕ) → i < 16 → j < 16 → alpha i ≡ alpha j → i ≡ j
 alpha-distinct i j hi hj e =
     either (eqb i j) (not (eqb (alpha i) (alpha j))) (eqb→eq i j) (λ t. absurd (T-not (eqb (alpha i) (alpha j)) t (eq→eqb e)))
-    (all (apart i) 16 (all (λ i. every (apart i) 16) 16 apart-test i hi) j hj)
+    (every-at 16 (apart i) (every-at 16 (λ i. everyBelow 16 (apart i)) apart-test i hi) j hj)
 
 pub inverse-law : (a : ℕ) → a < 256 → ¬ (a ≡ 0) → a ⊗ inverse a ≡ 1
 unfolding inverse

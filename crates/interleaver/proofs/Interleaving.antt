@@ -7,10 +7,11 @@ use native.Mathlib.Nat.{add-suc, suc-add, add-zero}
 use native.Mathlib.Omega.{arith}
 use native.Mathlib.Decide.{decLt}
 use lib.Dec.{ltb, eqb, lit≤}
-use borrow.Author.Tests.{lt-ltb, ltb-true, eqb-true}
+use borrow.Author.Tests.{lt-ltb, ltb-true}
+use lib.Dec.{eqb→eq}
 use Rattle.rules.specs.Bits.{row}
 use Rattle.rules.specs.Interleaver.{tableD, address, nextKept, counter, interleaved}
-use Rattle.interleaver.proofs.Test.{all-at}
+use Rattle.laws.specs.Every.{every-at}
 use Rattle.interleaver.proofs.Count.{count, count-yes, count-no, count-le, count-once, count-below}
 use Rattle.interleaver.proofs.OneToOne.{address-injective, back, back-lt, address-back}
 
@@ -119,7 +120,7 @@ module _ (n : ℕ) (D : ℕ → ℕ) (odd : (i : ℕ) → i < 32 → D i % 2 ≡
 
 -- the table of document 01, at width 5 and length 994
 tableD-odd : (i : ℕ) → i < 32 → row tableD i % 2 ≡ 1
-tableD-odd i lt = eqb-true _ _ (all-at (λ i. eqb (row tableD i % 2) 1) 32 tt i lt)
+tableD-odd i lt = eqb→eq _ _ (every-at 32 (λ i. eqb (row tableD i % 2) 1) tt i lt)
 
 pub counter5-lt : (i : ℕ) → i < 994 → counter 5 (row tableD) 994 i < 1024
 counter5-lt = counter-lt 5 (row tableD) tableD-odd 994 (lit≤ tt)

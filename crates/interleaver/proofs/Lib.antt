@@ -1,4 +1,3 @@
-pub mod Test
 pub mod Count
 pub mod Odd
 pub mod OneToOne

@@ -6,16 +6,16 @@ use native.Mathlib.Omega.{arith}
 use lib.Dec.{eqb}
 use lib.Pow.{pow-pos}
 use lib.Arith.{digits-lt, digits-div, digits-mod}
-use borrow.Author.Tests.{eqb-true}
+use lib.Dec.{eqb→eq}
 use Rattle.rules.specs.Interleaver.{reversed, address}
-use Rattle.interleaver.proofs.Test.{all-at}
+use Rattle.laws.specs.Every.{every-at}
 use Rattle.interleaver.proofs.Odd.{Inverse, inverse, unstep, unstep-step, step-unstep, unstep-lt}
 
 reversed-lt : (i : ℕ) → reversed i < 32
 reversed-lt i = omega arith
 
 reversed-twice : {i : ℕ} → i < 32 → reversed (reversed i) ≡ i
-reversed-twice {i} lt = eqb-true _ _ (all-at (λ i. eqb (reversed (reversed i)) i) 32 tt i lt)
+reversed-twice {i} lt = eqb→eq _ _ (every-at 32 (λ i. eqb (reversed (reversed i)) i) tt i lt)
 
 module _ (n : ℕ) (D : ℕ → ℕ) where
   digits : (m : ℕ) → address n D m ≡ reversed (m % 32) * 2 ^ n + D (m % 32) * (m / 32 + 1) % 2 ^ n

@@ -6,7 +6,7 @@ use native.Mathlib.Decide.{ℕ-discrete}
 use native.Mathlib.Omega.{arith}
 use lib.Dec.{T}
 use lib.Ieee.Fits.{and-i, and-l, and-r}
-use Rattle.rules.specs.Block.{everyBelow}
+use Rattle.rules.specs.Bits.{everyBelow}
 
 pub every-at : (n : ℕ) (f : ℕ → Bool) → T (everyBelow n f) → (i : ℕ) → i < n → T (f i)
 every-at zero f t i h = absurd (omega arith)

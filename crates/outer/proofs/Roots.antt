@@ -6,7 +6,8 @@ use native.Mathlib.Nat.{add-sub-cancel-left}
 use native.Mathlib.Omega.{arith}
 use lib.Dec.{T, eqb, ltb, leb, lit<, lit≤, eqb→eq, ltb→lt}
 use lib.Ieee.Fits.{and-l, and-r}
-use borrow.Author.Count.{below-more}
+use Rattle.rules.specs.Bits.{everyBelow}
+use Rattle.laws.specs.Every.{every-at}
 use borrow.Author.Tests.{lt-ltb, le-ltb}
 use Rattle.rules.specs.Bits.{pick}
 use Rattle.rules.specs.Field.{_⊕_, _⊗_, power, alpha, double, times}
@@ -20,22 +21,13 @@ pub record Rate (r : ℕ) : Type 0 where
   pub most : r ≤ 8
   pub generator-root : (j : ℕ) → j < r → value r (generator r) (root r j) ≡ power (root r j) r
 
--- a test passes at each number below n
-abbrev all : (ℕ → Bool) → ℕ → Bool
-all t zero = true
-all t (suc n) = t n && all t n
-
-all-at : (t : ℕ → Bool) (n : ℕ) → T (all t n) → (k : ℕ) → k < n → T (t k)
-all-at t zero h k l = absurd (omega arith)
-all-at t (suc n) h k l =
-    below-more (λ (m : ℕ). T (t m)) n (all-at t n (and-r (t n) (all t n) h)) (and-l (t n) (all t n) h) k (omega arith)
-
+-- root j, as a test
 isRoot : ℕ → ℕ → Bool
 isRoot r j = eqb (value r (generator r) (root r j)) (power (root r j) r)
 
-rate-of : (r : ℕ) → T (ltb 0 r) → T (leb r 8) → T (all (isRoot r) r) → Rate r
+rate-of : (r : ℕ) → T (ltb 0 r) → T (leb r 8) → T (everyBelow r (isRoot r)) → Rate r
 unfolding isRoot
-rate-of r a b t = record { some = lit< a; most = lit≤ b; generator-root = λ j l. eqb→eq _ _ (all-at (isRoot r) r t j l) }
+rate-of r a b t = record { some = lit< a; most = lit≤ b; generator-root = λ j l. eqb→eq _ _ (every-at r (isRoot r) t j l) }
 
 -- what holds of 8, 12 and 14 holds of every K
 pub by-k : (P : ℕ → Type 0) → P 8 → P 12 → P 14 → (k : ℕ) → T (isK k) → P k

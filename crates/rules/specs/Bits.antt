@@ -1,6 +1,6 @@
 -- Bits, and a choice by a test. A bit is the number 0 or 1, and bits are added modulo 2.
 -- A row of bits, bytes or field elements is a function of the index, from 0.
-use mathlib.Core.Bool.{Bool, true, false}
+use mathlib.Core.Bool.{Bool, true, false, _&&_}
 use mathlib.Core.List.{List}
 use Prim.Native.Nat.{ℕ, zero, suc, _+_, _-_, _*_, _/_, _%_, _^_}
 use lib.Dec.{eqb}
@@ -9,6 +9,11 @@ use lib.ListN.{getD}
 abbrev pub pick : {A : Type 0} → Bool → A → A → A
 pick true a b = a
 pick false a b = b
+
+-- a test passes at each number below n
+abbrev pub everyBelow : ℕ → (ℕ → Bool) → Bool
+everyBelow zero f = true
+everyBelow (suc n) f = everyBelow n f && f n
 
 -- a list as a row, with zeros after its end
 abbrev pub row : List ℕ → ℕ → ℕ

@@ -7,6 +7,7 @@ use lib.Count.{ones}
 use lib.Dec.{T, eqb, ltb}
 use lib.Ieee.{Float}
 use lib.ListN.{length, getD, replicate}
+pub use Rattle.rules.specs.Bits.{everyBelow}
 use Rattle.rules.specs.Bits.{pick, row, bitOf}
 use Rattle.rules.specs.Packet.{packetBit, checkWord}
 use Rattle.rules.specs.Outer.{encoded, Codeword, Agree, marked}
@@ -97,10 +98,6 @@ abbrev pub packetPart : ℕ → (ℕ → ℕ) → ℕ → ℕ → ℕ
 packetPart m v p i = v (packetBits m * p + i)
 
 -- ---- judging one packet's decided bits v
-
-abbrev pub everyBelow : ℕ → (ℕ → Bool) → Bool
-everyBelow zero f = true
-everyBelow (suc n) f = everyBelow n f && f n
 
 -- the 994 decided bits that entered the encoder
 abbrev pub decidedData : ℕ → (ℕ → ℕ) → ℕ → ℕ

@@ -3,16 +3,16 @@ use Prim.Native.Nat.{ℕ, _+_, _*_, _/_, _%_, _≤_, _<_}
 use native.Mathlib.Nat.{mul-le-mul, le-pred-of-lt}
 use native.Mathlib.Omega.{arith}
 use lib.Dec.{ltb}
-use borrow.Author.Tests.{ltb-true}
+use lib.Dec.{ltb→lt}
 use Rattle.rules.specs.Bits.{row}
 use Rattle.rules.specs.Interleaver.{tableD, address}
-use Rattle.interleaver.proofs.Test.{all-at}
+use Rattle.laws.specs.Every.{every-at}
 use borrow.Author.Needs.{needs}
 use Rattle.interleaver.proofs.address.Statement.{statement}
 use Rattle.interleaver.proofs.address.Tie as tie
 
 small : (i : ℕ) → i < 32 → row tableD i < 32
-small i lt = ltb-true _ _ (all-at (λ i. ltb (row tableD i) 32) 32 tt i lt)
+small i lt = ltb→lt _ _ (every-at 32 (λ i. ltb (row tableD i) 32) tt i lt)
 
 cast-at : tie.Need-cast-at
 cast-at c = search needs
