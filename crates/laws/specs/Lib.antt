@@ -1,4 +1,4 @@
 pub mod Holds
 pub mod Rows
 pub mod Every
-pub mod Fill
+pub mod Filled

@@ -1,12 +1,15 @@
 // A packet's bits and its check word. A bit is a byte that is 0 or 1.
 ghost use mathlib.Core.Path.{_≡_};
+ghost use mathlib.Core.Bool.{_&&_};
 ghost use Prim.Native.Nat.{ℕ, _<_, _≤_};
+ghost use lib.Dec.{eqb};
 ghost use lib.ListN.{length};
-ghost use Rattle.rules.specs.Bits.{row};
+ghost use Rattle.rules.specs.Bits.{row, bitOf};
 ghost use Rattle.rules.specs.Packet.{checkStep, checkRegister, checkWord, packetBit};
 ghost use Rattle.rules.specs.Block.{byteOf, checkRight, reservedRight};
 ghost use Rattle.laws.specs.Holds.{Holds};
 ghost use Rattle.laws.specs.Rows.{Bits};
+ghost use Rattle.laws.specs.Filled.{upTo};
 
 // The check register after one bit more.
 fn check_step(s: u16, b: u8) -> u16
@@ -18,18 +21,56 @@ fn check_step(s: u16, b: u8) -> u16
     if top == 1 { shifted ^ 0x1021 } else { shifted }
 }
 
-// The check word of the first 976 bits.
-pub fn check_word(x: &[u8]) -> u16
-    requires { ⌜ (976 ≤ length (now x)) × Bits (now x) ⌝ }
-    ensures { λ r. ⌜ r ≡ checkWord (row (now (x .entry))) 976 ⌝ }
+// The check word of the first n bits.
+pub fn check_of(x: &[u8], n: usize) -> u16
+    requires { ⌜ (n ≤ length (now x)) × Bits (now x) ⌝ }
+    ensures { λ r. ⌜ r ≡ checkWord (row (now (x .entry))) n ⌝ }
 {
     let mut s = 65535u16;
     let mut i = 0;
-    while i < 976 {
+    while i < n {
         s = check_step(s, x[i]);
         i = i + 1;
     }
     65535 - s
+}
+
+// The check word of a packet's 976 data bits.
+pub fn check_word(x: &[u8]) -> u16
+    requires { ⌜ (976 ≤ length (now x)) × Bits (now x) ⌝ }
+    ensures { λ r. ⌜ r ≡ checkWord (row (now (x .entry))) 976 ⌝ }
+{
+    check_of(x, 976)
+}
+
+// Bit i of a byte, the highest first.
+fn byte_bit(b: u8, i: usize) -> u8
+    requires { ⌜ i < 8 ⌝ }
+    ensures { λ r. ⌜ r ≡ bitOf 8 b i ⌝ }
+{
+    (b >> (7 - i)) % 2
+}
+
+// Bit i of the check word, the highest first.
+fn word_bit(w: u16, i: usize) -> u8
+    requires { ⌜ i < 16 ⌝ }
+    ensures { λ r. ⌜ r ≡ bitOf 16 w i ⌝ }
+{
+    ((w >> (15 - i)) % 2) as u8
+}
+
+// The data bits, and zeros after them.
+fn data_bits(data: &[u8]) -> [u8; 1000]
+    requires { ⌜ length (now «data») ≡ 122 ⌝ }
+    ensures { λ r. ⌜ Holds 0 1000 (upTo 976 (packetBit (row (now («data» .entry)))) (λ i. 0)) r ⌝ }
+{
+    let mut x = [0u8; 1000];
+    let mut i = 0;
+    while i < 976 {
+        x[i] = byte_bit(data[i / 8], i % 8);
+        i = i + 1;
+    }
+    x
 }
 
 // The 1000 bits of the packet that holds these 122 bytes.
@@ -37,7 +78,21 @@ pub fn bits_of(data: &[u8]) -> [u8; 1000]
     requires { ⌜ length (now «data») ≡ 122 ⌝ }
     ensures { λ r. ⌜ Holds 0 1000 (packetBit (row (now («data» .entry)))) r ⌝ }
 {
-    [0u8; 1000]
+    let mut x = data_bits(data);
+    let w = check_word(&x);
+    let mut i = 0;
+    while i < 16 {
+        x[976 + i] = word_bit(w, i);
+        i = i + 1;
+    }
+    x
+}
+
+// One comparison more.
+fn also_same(ok: bool, a: u8, b: u8) -> bool
+    ensures { λ r. ⌜ r ≡ (ok && eqb a b) ⌝ }
+{
+    ok && a == b
 }
 
 // Whether the check bits are the check word's.
@@ -45,7 +100,14 @@ pub fn check_right(x: &[u8]) -> bool
     requires { ⌜ (992 ≤ length (now x)) × Bits (now x) ⌝ }
     ensures { λ r. ⌜ r ≡ checkRight (row (now (x .entry))) ⌝ }
 {
-    true
+    let w = check_word(x);
+    let mut ok = true;
+    let mut i = 0;
+    while i < 16 {
+        ok = also_same(ok, x[976 + i], word_bit(w, i));
+        i = i + 1;
+    }
+    ok
 }
 
 // Whether the two reserved bits are zero.
@@ -61,5 +123,11 @@ pub fn byte_of(x: &[u8], j: usize) -> u8
     requires { ⌜ (j < 122) × (976 ≤ length (now x)) × Bits (now x) ⌝ }
     ensures { λ r. ⌜ r ≡ byteOf (row (now (x .entry))) j ⌝ }
 {
-    0
+    let mut b = 0u8;
+    let mut i = 0;
+    while i < 8 {
+        b = b * 2 + x[8 * j + i];
+        i = i + 1;
+    }
+    b
 }

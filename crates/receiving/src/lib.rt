@@ -12,7 +12,13 @@ pub struct Hearing {
 }
 
 // Hears one symbol's cells.
-pub fn hear(p: Profile, symbol: usize, firsts: &[f32], seconds: &[f32], bits: [u8; 48000]) -> Hearing
+pub fn hear(
+    p: Profile,
+    symbol: usize,
+    firsts: &[f32],
+    seconds: &[f32],
+    bits: [u8; 48000],
+) -> Hearing
     ensures { λ r. ⌜ HearRule p symbol (now (firsts .entry)) (now (seconds .entry)) bits (r .bits) (r .number) ⌝ }
 {
     Hearing { number: 4, bits }
@@ -22,12 +28,20 @@ pub fn hear(p: Profile, symbol: usize, firsts: &[f32], seconds: &[f32], bits: [u
 pub fn conclude(p: Profile, marks: u16, bits: [u8; 48000], data: &mut [u8]) -> Receipt
     ensures { λ r. ⌜ ConcludeRule p marks bits (now («data» .entry)) (now («data» .exit)) r ⌝ }
 {
-    Receipt { number: 4, lost: 0, reasons: [0u8; 16] }
+    Receipt {
+        number: 4,
+        lost: 0,
+        reasons: [0u8; 16],
+    }
 }
 
 // Receives a whole grid.
 pub fn receive(p: Profile, marks: u16, firsts: &[f32], seconds: &[f32], data: &mut [u8]) -> Receipt
     ensures { λ r. ⌜ ReceiveRule p marks (now (firsts .entry)) (now (seconds .entry)) (now («data» .entry)) (now («data» .exit)) r ⌝ }
 {
-    Receipt { number: 4, lost: 0, reasons: [0u8; 16] }
+    Receipt {
+        number: 4,
+        lost: 0,
+        reasons: [0u8; 16],
+    }
 }

@@ -36,7 +36,13 @@ pub fn send(p: Profile, data: &[u8], firsts: &mut [f32], seconds: &mut [f32]) ->
 }
 
 // Fills two lists of 4096 with one symbol's cells.
-pub fn send_symbol(p: Profile, data: &[u8], symbol: usize, firsts: &mut [f32], seconds: &mut [f32]) -> u32
+pub fn send_symbol(
+    p: Profile,
+    data: &[u8],
+    symbol: usize,
+    firsts: &mut [f32],
+    seconds: &mut [f32],
+) -> u32
     ensures { λ r. ⌜ SendSymbolRule p (now («data» .entry)) symbol (now (firsts .entry)) (now (seconds .entry)) (now (firsts .exit)) (now (seconds .exit)) r ⌝ }
 {
     4

@@ -1,0 +1,46 @@
+-- A list that is filled from the front, one element a turn.
+use mathlib.Core.Path.{_≡_, sym, _∙_, ap}
+use mathlib.Core.Bool.{Bool}
+use mathlib.Core.List.{List}
+use Prim.Native.Nat.{ℕ, _+_, _<_, _≤_}
+use native.Mathlib.Decide.{ℕ-discrete, decLt}
+use native.Mathlib.Omega.{arith}
+use lib.Dec.{ltb, lit<}
+use lib.ListN.{set, List·getD-eq-default}
+use borrow.Author.Tests.{lt-ltb, le-ltb, eq-eqb, ne-eqb}
+use Rattle.rules.specs.Bits.{pick, row}
+use Rattle.laws.specs.Holds.{Holds, put, holds-as, holds-put}
+use Rattle.laws.specs.Rows.{Bits}
+
+-- f below i, then g
+abbrev pub upTo : {A : Type 0} → ℕ → (ℕ → A) → (ℕ → A) → ℕ → A
+upTo i f g k = pick (ltb k i) (f k) (g k)
+
+module _ {A : Type 0} (f g : ℕ → A) where
+  pub upTo-below : (i k : ℕ) → k < i → upTo i f g k ≡ f k
+  upTo-below i k h = ap (λ (b : Bool). pick b (f k) (g k)) (lt-ltb k i h)
+
+  pub upTo-from : (i k : ℕ) → i ≤ k → upTo i f g k ≡ g k
+  upTo-from i k h = ap (λ (b : Bool). pick b (f k) (g k)) (le-ltb k i h)
+
+  -- the turn: f i is stored at i
+  pub holds-next : (d : A) {n : ℕ} {l : List A} (i : ℕ) (v : A) → i < n → v ≡ f i
+      → Holds d n (upTo i f g) l
+      → Holds d n (upTo (i + 1) f g) (set l i v)
+  holds-next d {n} i v lt e h = holds-as d (upTo (i + 1) f g) (λ k k<n. at k (ℕ-discrete k i) (decLt k i)) (holds-put d i v lt h)
+    where
+      at : (k : ℕ) → Dec (k ≡ i) → Dec (k < i) → put (upTo i f g) i v k ≡ upTo (i + 1) f g k
+      at k (yes q) less =
+          ap (λ (b : Bool). pick b v (upTo i f g k)) (eq-eqb k i q) ∙ e ∙ ap f (sym q) ∙ sym (upTo-below (i + 1) k (omega arith))
+      at k (no q) (yes less) =
+          ap (λ (b : Bool). pick b v (upTo i f g k)) (ne-eqb k i q) ∙ upTo-below i k less ∙ sym (upTo-below (i + 1) k (omega arith))
+      at k (no q) (no more) =
+          ap (λ (b : Bool). pick b v (upTo i f g k)) (ne-eqb k i q) ∙ upTo-from i k (omega arith) ∙ sym (upTo-from (i + 1) k (omega arith))
+
+-- a list that holds bits is one of bits
+pub holds-bits : (n : ℕ) (f : ℕ → ℕ) (l : List ℕ) → ((k : ℕ) → k < n → f k < 2) → Holds 0 n f l → Bits l
+holds-bits n f l b h i = go (decLt i n)
+  where
+    go : Dec (i < n) → row l i < 2
+    go (yes lt) = rw (h .each i lt) (b i lt)
+    go (no ge) = rw (List·getD-eq-default l 0 {n = i} (omega (arith, h .long))) (lit< tt)
