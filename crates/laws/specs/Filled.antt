@@ -23,6 +23,14 @@ module _ {A : Type 0} (f g : ℕ → A) where
   pub upTo-from : (i k : ℕ) → i ≤ k → upTo i f g k ≡ g k
   upTo-from i k h = ap (λ (b : Bool). pick b (f k) (g k)) (le-ltb k i h)
 
+  -- before the first turn
+  pub holds-none : (d : A) {n : ℕ} {l : List A} → Holds d n g l → Holds d n (upTo 0 f g) l
+  holds-none d h = holds-as d (upTo 0 f g) (λ k _. sym (upTo-from 0 k (omega arith))) h
+
+  -- after the last
+  pub holds-all : (d : A) {n : ℕ} {l : List A} (i : ℕ) → n ≤ i → Holds d n (upTo i f g) l → Holds d n f l
+  holds-all d i le h = holds-as d f (λ k lt. upTo-below i k (omega arith)) h
+
   -- the turn: f i is stored at i
   pub holds-next : (d : A) {n : ℕ} {l : List A} (i : ℕ) (v : A) → i < n → v ≡ f i
       → Holds d n (upTo i f g) l
