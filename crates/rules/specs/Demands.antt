@@ -14,7 +14,7 @@ use Rattle.rules.specs.Packet.{packetBit}
 use Rattle.rules.specs.Outer.{marked}
 use Rattle.rules.specs.Slots.{slotBits, packetBits, symbols, coded}
 use Rattle.rules.specs.Points.{doubtful}
-use Rattle.rules.specs.Profile.{inRange, reading, writing, written, blank}
+use Rattle.rules.specs.Profile.{inRange, Shape, reading, writing, written, blank}
 use Rattle.rules.specs.Answers.{isNumber, isReason}
 use Rattle.rules.specs.Block.{packet, scrambler, sentBit, heard, SendRule, SendSymbolRule, ReceiveRule}
 use Rattle.rules.specs.declared.Profile.{Profile}
@@ -74,7 +74,7 @@ pub record D2 : Type 0 where
       → marked marks p ≡ 0
       → (row (a .reasons) p ≡ 0) ↔ SomePacket P f s p
   -- a profile is read and written by the same rules: reading what was written gives the value back, and what reads well is what is written
-  pub read-written : (P : Profile) → T (inRange P) → reading (written P) ≡ record { number = 0; profile = P }
+  pub read-written : (P : Profile) → T (inRange P) → Shape P → reading (written P) ≡ record { number = 0; profile = P }
   pub written-read : (s : List ℕ) → ((i : ℕ) → row s i < 256) → reading s .number ≡ 0 → T (inRange (reading s .profile)) × (written (reading s .profile) ≡ s)
 
 -- ---- 3. The lost set exactly; at most r lost come back, more are refused

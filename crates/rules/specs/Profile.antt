@@ -1,9 +1,10 @@
 -- Document 01, "Profile": the fields as a table that reading, writing and the range of a value walk.
+use mathlib.Core.Path.{_≡_}
 use mathlib.Core.Bool.{Bool, true, false, not, _&&_}
 use mathlib.Core.List.{List, [], _∷_, _++_}
 use Prim.Native.Nat.{ℕ, zero, suc, _+_, _-_, _*_, _/_, _%_, _^_}
-use lib.Dec.{eqb, ltb}
-use lib.Ieee.{Float, binary32, ofBits, toBits, le}
+use lib.Dec.{T, eqb, ltb}
+use lib.Ieee.{Float, binary32, ofBits, toBits, le, fits}
 use lib.ListN.{length, take, drop, replicate}
 use Rattle.rules.specs.Bits.{pick, row}
 use Rattle.rules.specs.Outer.{isK}
@@ -111,6 +112,12 @@ abbrev pub blank : Profile
 blank = record { masks = replicate 8 0; level = zeroPart; mode = 0; k = 0; seeds = replicate 48 0 }
 
 -- ---- a profile passed as a value
+
+-- what every value of the declared type has, by its type: eight masks, an f32, 48 seeds
+pub record Shape (P : Profile) : Type 0 where
+  pub masks : length (P .masks) ≡ 8
+  pub level : T (fits binary32 (P .level))
+  pub seeds : length (P .seeds) ≡ 48
 
 abbrev pub allGood : List Field → Profile → Bool
 allGood [] p = true
