@@ -1,11 +1,9 @@
 -- One symbol's cells from a block's bits, and a block's decided bits from one symbol's cells.
-use mathlib.Core.Path.{_≡_}
-use mathlib.Core.Bool.{Bool, _&&_}
+use mathlib.Core.Bool.{_&&_}
 use mathlib.Core.List.{List}
-use Prim.Native.Nat.{ℕ, _+_, _*_, _/_, _%_, _<_}
-use lib.Dec.{eqb, ltb}
+use Prim.Native.Nat.{ℕ, _+_, _*_, _/_, _%_, min}
+use lib.Dec.{eqb, leb, ltb}
 use lib.Ieee.{Float}
-use lib.ListN.{length, getD}
 use Rattle.rules.specs.Bits.{pick, row}
 use Rattle.rules.specs.Slots.{slots, slotBits, symbolOf}
 use Rattle.rules.specs.Points.{zeroPart, firstPart, secondPart, decide}
@@ -26,8 +24,20 @@ pub record Written (m : ℕ) (level : Float) (bits : List ℕ) (symbol : ℕ) (f
   pub firsts-are : Holds zeroPart 4096 (λ c. firstPart (symbolCell m level bits symbol c)) firsts
   pub seconds-are : Holds zeroPart 4096 (λ c. secondPart (symbolCell m level bits symbol c)) seconds
 
--- bit g of the block as the cells of the symbol decide it, where it is one of the symbol's; else what stood there before
+-- one past the last block slot of a symbol: the last symbol may have fewer than 7 slots
+abbrev pub slotsEnd : ℕ → ℕ → ℕ
+slotsEnd m symbol = min (7 * symbol + 7) (slots m)
+
+-- bit g of the block as the cells of its symbol decide it
+abbrev pub heardIn : ℕ → List Float → List Float → ℕ → ℕ
+heardIn m firsts seconds g =
+    decide (partOf (g % slotBits m) firsts seconds (pointCell (g / slotBits m) (g % slotBits m / 2)))
+
+-- the bits from one to before another so, and else what stood there before
+abbrev pub readIn : ℕ → ℕ → ℕ → List Float → List Float → List ℕ → ℕ → ℕ
+readIn m from to firsts seconds before g = pick (leb from g && ltb g to) (heardIn m firsts seconds g) (row before g)
+
+-- the bits of the symbol so, and else what stood there before
 abbrev pub decidedIn : ℕ → ℕ → List Float → List Float → List ℕ → ℕ → ℕ
 decidedIn m symbol firsts seconds before g =
-    pick (eqb (symbolOf (g / slotBits m)) symbol)
-    (decide (partOf (g % slotBits m) firsts seconds (pointCell (g / slotBits m) (g % slotBits m / 2)))) (row before g)
+    pick (eqb (symbolOf (g / slotBits m)) symbol) (heardIn m firsts seconds g) (row before g)

@@ -1,16 +1,16 @@
 // Points, cells and decisions; one symbol's cells written from a block's bits, and read into its decided bits.
 ghost use mathlib.Core.Path.{_≡_};
-ghost use Prim.Native.Nat.{ℕ, _*_, _<_};
+ghost use Prim.Native.Nat.{_+_, _*_, _<_, _≤_};
 ghost use lib.Dec.{T};
-ghost use lib.ListN.{length};
-ghost use Rattle.rules.specs.Bits.{row};
+ghost use lib.ListN.{length, getD};
 ghost use Rattle.rules.specs.Slots.{isMode, slots, slotBits, symbols};
 ghost use Rattle.rules.specs.Points as points;
-ghost use Rattle.rules.specs.Points.{pointOf, firstPart, secondPart};
+ghost use Rattle.rules.specs.Points.{zeroPart, pointOf, firstPart, secondPart};
 ghost use Rattle.rules.specs.Cells as rule;
 ghost use Rattle.laws.specs.Holds.{Holds};
 ghost use Rattle.laws.specs.Rows.{Bits};
-ghost use Rattle.cells.specs.Symbol.{symbolCell, Written, decidedIn};
+ghost use Rattle.cells.specs.Spot.{belonging};
+ghost use Rattle.cells.specs.Symbol.{symbolCell, Written, slotsEnd, readIn, decidedIn};
 use rules::Carried;
 use rules::Cell;
 use rules::Point;
@@ -21,19 +21,41 @@ pub struct Decision {
     pub s1: u8,
 }
 
+// Where a cell is: in no interlace, or at a place of interlace k.
+enum Spot {
+    Outside,
+    Place(usize, usize),
+}
+
+// A bit 1 makes the part -level.
+fn part(level: f32, bit: u8) -> f32
+    ensures { λ r. ⌜ r ≡ points.part level bit ⌝ }
+{
+    if bit == 1 {
+        return -level;
+    }
+    level
+}
+
 pub fn point_of(level: f32, s0: u8, s1: u8) -> Point
     requires { ⌜ (s0 < 2) × (s1 < 2) ⌝ }
     ensures { λ r. ⌜ r ≡ pointOf level s0 s1 ⌝ }
 {
     Point {
-        first: level,
-        second: level,
+        first: part(level, s0),
+        second: part(level, s1),
     }
 }
 
 pub fn decide(part: f32) -> u8
     ensures { λ r. ⌜ (r ≡ points.decide part) × (r < 3) ⌝ }
 {
+    if part > 0.0 {
+        return 0;
+    }
+    if part < 0.0 {
+        return 1;
+    }
     2
 }
 
@@ -46,12 +68,92 @@ pub fn decide_point(p: Point) -> Decision
     }
 }
 
+// How many slots a block has.
+fn slot_count(mode: u8) -> usize
+    ensures { λ r. ⌜ (r ≡ slots mode) × (r < 4096) ⌝ }
+{
+    if mode == 0 {
+        return 48;
+    }
+    32
+}
+
+// The place of a point in its interlace, and the point at a place.
+fn place_of(point: usize) -> usize
+    requires { ⌜ point < 500 ⌝ }
+    ensures { λ r. ⌜ (r ≡ rule.placeOf point) × (r < 500) ⌝ }
+{
+    point
+}
+
+fn point_at(place: usize) -> usize
+    requires { ⌜ place < 500 ⌝ }
+    ensures { λ r. ⌜ (r ≡ rule.pointAt place) × (r < 500) ⌝ }
+{
+    place
+}
+
+// The interlace of slot number 1 to 7 in a symbol, and the slot number of an interlace, 0 for none.
+fn interlace_of(symbol: usize, slot: usize) -> usize
+    requires { ⌜ (symbol < 4096) × (1 ≤ slot) × (slot ≤ 7) ⌝ }
+    ensures { λ r. ⌜ (r ≡ rule.interlaceOf symbol slot) × (r < 8) ⌝ }
+{
+    slot
+}
+
+fn slot_of(symbol: usize, interlace: usize) -> usize
+    requires { ⌜ (symbol < 4096) × (interlace < 8) ⌝ }
+    ensures { λ r. ⌜ (r ≡ rule.slotOf symbol interlace) × (r ≤ 7) ⌝ }
+{
+    interlace
+}
+
+// Where cell c is. Cell 2048 is in no interlace, so the upper half of interlace 0 stands one place higher.
+fn spot_of(c: usize) -> Spot
+    ensures { λ r. ⌜ belonging r ≡ rule.belongs c ⌝ }
+{
+    if c < 48 {
+        return Spot::Outside;
+    }
+    if c == 2048 {
+        return Spot::Outside;
+    }
+    if c > 4048 {
+        return Spot::Outside;
+    }
+    if c % 8 == 0 {
+        if c > 2048 {
+            return Spot::Place(0, (c - 56) / 8);
+        }
+    }
+    Spot::Place(c % 8, (c - 48) / 8)
+}
+
+// What interlace k carries at a place.
+fn carried_at(mode: u8, symbol: usize, k: usize, place: usize) -> Carried
+    requires { ⌜ (symbol < 4096) × (k < 8) × (place < 500) ⌝ }
+    ensures { λ r. ⌜ r ≡ rule.carriedAt mode symbol (rule.place k place) ⌝ }
+{
+    let slot = slot_of(symbol, k);
+    if slot == 0 {
+        return Carried::Nothing;
+    }
+    let t = 7 * symbol + slot - 1;
+    if t < slot_count(mode) {
+        return Carried::PointOf(t, point_at(place));
+    }
+    Carried::Nothing
+}
+
 // What cell c of a symbol carries.
 pub fn carried(mode: u8, symbol: usize, c: usize) -> Carried
     requires { ⌜ T (isMode mode) × (symbol < 4096) ⌝ }
     ensures { λ r. ⌜ r ≡ rule.carried mode symbol c ⌝ }
 {
-    Carried::Nothing
+    match spot_of(c) {
+        Spot::Outside => Carried::Nothing,
+        Spot::Place(k, place) => carried_at(mode, symbol, k, place),
+    }
 }
 
 // The cell of a symbol whose block has these scrambled bits.
@@ -59,7 +161,26 @@ pub fn cell_at(mode: u8, level: f32, bits: &[u8], symbol: usize, c: usize) -> Ce
     requires { ⌜ T (isMode mode) × (symbol < 4096) × (length (now bits) ≡ slotBits mode * slots mode) × Bits (now bits) ⌝ }
     ensures { λ r. ⌜ r ≡ symbolCell mode level (now (bits .entry)) symbol c ⌝ }
 {
-    Cell::Silent
+    match carried(mode, symbol, c) {
+        Carried::Nothing => Cell::Silent,
+        Carried::PointOf(t, i) => {
+            let at = 1000 * t + 2 * i;
+            Cell::Carries(point_of(level, bits[at], bits[at + 1]))
+        }
+    }
+}
+
+// The two parts of a cell, zeros of a silent one.
+fn parts_of(cell: Cell) -> Point
+    ensures { λ r. ⌜ (r .first ≡ firstPart cell) × (r .second ≡ secondPart cell) ⌝ }
+{
+    match cell {
+        Cell::Silent => Point {
+            first: 0.0,
+            second: 0.0,
+        },
+        Cell::Carries(p) => p,
+    }
 }
 
 // One symbol's 4096 cells, in rising order.
@@ -74,7 +195,75 @@ pub fn write_symbol(
     requires { ⌜ T (isMode mode) × (symbol < 4096) × (length (now bits) ≡ slotBits mode * slots mode) × Bits (now bits)
         × (length (now firsts) ≡ 4096) × (length (now seconds) ≡ 4096) ⌝ }
     ensures { λ _. ⌜ Written mode level (now (bits .entry)) symbol (now (firsts .exit)) (now (seconds .exit)) ⌝ }
-{}
+{
+    for c in 0..4096 {
+        let cell = cell_at(mode, level, bits, symbol, c);
+        let parts = parts_of(cell);
+        firsts[c] = parts.first;
+        seconds[c] = parts.second;
+    }
+}
+
+// The cell of a place of interlace k.
+fn cell_of(k: usize, place: usize) -> usize
+    requires { ⌜ (k < 8) × (place < 500) ⌝ }
+    ensures { λ r. ⌜ (r ≡ rule.cellOf k place) × (r < 4096) ⌝ }
+{
+    if k == 0 {
+        if place >= 250 {
+            return 56 + 8 * place;
+        }
+    }
+    48 + k + 8 * place
+}
+
+// The cell, in its symbol, of point i of block slot t.
+fn point_cell(t: usize, i: usize) -> usize
+    requires { ⌜ (t < 4096) × (i < 500) ⌝ }
+    ensures { λ r. ⌜ (r ≡ rule.pointCell t i) × (r < 4096) ⌝ }
+{
+    cell_of(interlace_of(t / 7, 1 + t % 7), place_of(i))
+}
+
+// The point that a cell holds.
+fn point_in(firsts: &[f32], seconds: &[f32], c: usize) -> Point
+    requires { ⌜ (c < length (now firsts)) × (c < length (now seconds)) ⌝ }
+    ensures { λ r. ⌜ (r .first ≡ getD (now (firsts .entry)) c zeroPart) × (r .second ≡ getD (now (seconds .entry)) c zeroPart) ⌝ }
+{
+    Point {
+        first: firsts[c],
+        second: seconds[c],
+    }
+}
+
+// The decisions of block slot t's 500 points, from its symbol's cells.
+fn read_slot(mode: u8, t: usize, firsts: &[f32], seconds: &[f32], decided: &mut [u8])
+    requires { ⌜ T (isMode mode) × (t < slots mode) × (length (now firsts) ≡ 4096) × (length (now seconds) ≡ 4096)
+        × (length (now decided) ≡ slotBits mode * slots mode) ⌝ }
+    ensures { λ _. ⌜ Holds 0 (slotBits mode * slots mode)
+        (readIn mode (slotBits mode * t) (slotBits mode * (t + 1)) (now (firsts .entry)) (now (seconds .entry)) (now (decided .entry)))
+        (now (decided .exit)) ⌝ }
+{
+    for i in 0..500 {
+        let c = point_cell(t, i);
+        let d = decide_point(point_in(firsts, seconds, c));
+        let at = 1000 * t + 2 * i;
+        decided[at] = d.s0;
+        decided[at + 1] = d.s1;
+    }
+}
+
+// One past the last block slot of a symbol: the last symbol may have fewer than 7.
+fn slots_end(mode: u8, symbol: usize) -> usize
+    requires { ⌜ symbol < symbols mode ⌝ }
+    ensures { λ r. ⌜ r ≡ slotsEnd mode symbol ⌝ }
+{
+    let n = slot_count(mode);
+    if 7 * symbol + 7 < n {
+        return 7 * symbol + 7;
+    }
+    n
+}
 
 // The decisions of one symbol's own cells, put to their places among the block's bits; the other bits stay.
 pub fn read_symbol(mode: u8, symbol: usize, firsts: &[f32], seconds: &[f32], decided: &mut [u8])
@@ -82,4 +271,9 @@ pub fn read_symbol(mode: u8, symbol: usize, firsts: &[f32], seconds: &[f32], dec
         × (length (now decided) ≡ slotBits mode * slots mode) ⌝ }
     ensures { λ _. ⌜ Holds 0 (slotBits mode * slots mode)
         (decidedIn mode symbol (now (firsts .entry)) (now (seconds .entry)) (now (decided .entry))) (now (decided .exit)) ⌝ }
-{}
+{
+    let end = slots_end(mode, symbol);
+    for t in 7 * symbol..end {
+        read_slot(mode, t, firsts, seconds, decided);
+    }
+}

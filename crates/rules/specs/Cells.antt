@@ -29,7 +29,7 @@ cellOf k i = pick (eqb k 0 && leb 250 i) (56 + 8 * i) (48 + k + 8 * i)
 abbrev pub pointCell : ℕ → ℕ → ℕ
 pointCell t i = cellOf (interlaceOf (symbolOf t) (slotNumber t)) (placeOf i)
 
--- ---- the same read from the cell: crates/cells/proofs/Carried.antt shows that each of the two is the other's inverse
+-- ---- the same read from the cell: crates/cells/proofs/Inverse.antt shows that each of the two is the other's inverse
 
 -- what a cell belongs to: interlace k, place i; or to no interlace
 pub data Belongs : Type 0 where

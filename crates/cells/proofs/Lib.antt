@@ -1,0 +1,4 @@
+pub mod Inverse
+pub mod Deciding
+pub mod Heard
+mod Lists

@@ -1,0 +1,87 @@
+-- `cells::cell_at` meets its contract: the point that a cell carries is one of the block's, so its two bits are within the list.
+use mathlib.Core.Path.{_≡_, sym, _∙_, ap}
+use Prim.Native.Nat.{ℕ, _+_, _*_, _<_}
+use native.Mathlib.Omega.{arith}
+use borrow.Author.Needs.{needs}
+use Rattle.rules.specs.declared.Cell.the-variants.{Carries}
+use Rattle.rules.specs.Block.{cellFor}
+use Rattle.rules.specs.Points.{pointOf}
+use Rattle.rules.specs.Slots.{slots}
+use Rattle.rules.specs.Bits.{row}
+use Rattle.cells.specs.Symbol.{slotBit}
+use Rattle.cells.proofs.Inverse.{cell-carried}
+use Rattle.cells.proofs.cell_at.Statement.{statement}
+use Rattle.cells.proofs.cell_at.Tie as tie
+
+carried-requires : tie.Need-carried-requires
+carried-requires c κs = search needs
+
+enum-told : tie.Need-enum-told
+enum-told c = search needs
+
+enum-known-t : tie.Need-enum-known-t
+enum-known-t c = search needs
+
+-- the point that the cell carries is one of the block's
+inside : (c : tie.After-known-told)
+    → (c .before .t .given .0 .0 < slots (c .before .before .before .before .before .args .mode)) × (c .before .t .given .0 .1 .0 < 500)
+inside c =
+    let a = c .before .before .before .before .before .args in
+    let w = cell-carried (a .mode) (a .symbol) (a .c) (c .before .t .given .0 .0) (c .before .t .given .0 .1 .0)
+    (sym (c .before .before .before .carried .ensures) ∙ c .before .t .given .1) in
+    (w .0, w .1)
+
+mul-at : tie.Need-mul-at
+mul-at c = omega (arith, inside c)
+
+mul-at-2 : tie.Need-mul-at-2
+mul-at-2 c = omega (arith, inside c)
+
+add-at : tie.Need-add-at
+add-at c = omega (arith, inside c)
+
+shared-slice-read-point-of : tie.Need-shared-slice-read-point-of
+shared-slice-read-point-of c = omega (arith, inside (c .before))
+
+add-point-of : tie.Need-add-point-of
+add-point-of c = omega (arith, inside (c .before))
+
+shared-slice-read-point-of-2 : tie.Need-shared-slice-read-point-of-2
+shared-slice-read-point-of-2 c = omega (arith, inside (c .before .before))
+
+point-of-requires : tie.Need-point-of-requires
+point-of-requires c κs = let b = c .before .before .before .before .before .before .before .pre .3 in (b _, b _)
+
+next : (t i : ℕ) → 1000 * t + 2 * i + 1 ≡ 1000 * t + (2 * i + 1)
+next t i = omega arith
+
+returns : tie.Need-returns
+returns c =
+    let a = c .before .before .before .before .args in
+    ap (cellFor (a .level) (slotBit (a .mode) (a .bits .now))) (sym (c .enum-told .given .1) ∙ c .before .before .carried .ensures)
+
+returns-2 : tie.Need-returns-2
+returns-2 c =
+    let a = c .before .before .before .before .before .before .before .before .args in
+    let t = c .before .before .before .before .t .given in
+    let bit = row (a .bits .now) in
+    ap Carries (c .point-of .ensures)
+    ∙ ap (λ (n : ℕ). Carries (pointOf (a .level) (bit (1000 * t .0 .0 + 2 * t .0 .1 .0)) (bit n))) (next (t .0 .0) (t .0 .1 .0))
+    ∙ ap (cellFor (a .level) (slotBit (a .mode) (a .bits .now))) (sym (t .1) ∙ c .before .before .before .before .before .before .carried .ensures)
+
+pub cell-at-spec : {M : Type 1} → statement M
+cell-at-spec =
+    tie.close
+    (tie.spec
+    carried-requires
+    enum-told
+    enum-known-t
+    mul-at
+    mul-at-2
+    add-at
+    shared-slice-read-point-of
+    add-point-of
+    shared-slice-read-point-of-2
+    point-of-requires
+    returns
+    returns-2)

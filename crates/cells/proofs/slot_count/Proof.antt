@@ -1,0 +1,14 @@
+-- `cells::slot_count` meets its contract.
+use native.Mathlib.Omega.{arith}
+use borrow.Author.Tests.{eq-eqb, ne-eqb}
+use Rattle.cells.proofs.slot_count.Statement.{statement}
+use Rattle.cells.proofs.slot_count.Tie as tie
+
+returns : tie.Need-returns
+returns c = (simp (eq-eqb _ _ (c .if1 .taken)), omega arith)
+
+returns-2 : tie.Need-returns-2
+returns-2 c = (simp (ne-eqb _ _ (c .if1 .left)), omega arith)
+
+pub slot-count-spec : {M : Type 1} → statement M
+slot-count-spec = tie.close (tie.spec returns returns-2)
