@@ -1,4 +1,3 @@
 pub mod Inverse
 pub mod Deciding
 pub mod Heard
-mod Lists

@@ -2,7 +2,7 @@
 use lib.Ieee.{nan}
 use borrow.Author.Needs.{needs}
 use Rattle.rules.specs.Points.{zeroPart}
-use Rattle.cells.proofs.Lists.{any-default}
+use Rattle.laws.specs.Lists.{any-default}
 use Rattle.cells.proofs.point_in.Statement.{statement}
 use Rattle.cells.proofs.point_in.Tie as tie
 

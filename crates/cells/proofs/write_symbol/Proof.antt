@@ -5,7 +5,7 @@ use native.Mathlib.Omega.{arith}
 use borrow.Author.Needs.{needs}
 use Rattle.rules.specs.Points.{zeroPart, firstPart, secondPart}
 use Rattle.cells.specs.Symbol.{symbolCell}
-use Rattle.cells.proofs.Lists.{Filled, filled-none, filled-more, filled-all}
+use Rattle.laws.specs.Lists.{Filled, filled-none, filled-more, filled-all}
 use Rattle.cells.proofs.write_symbol.Statement.{statement}
 use Rattle.cells.proofs.write_symbol.Tie as tie
 
