@@ -1,14 +1,15 @@
--- A list that is filled from the front, one element a turn.
+-- A list that is filled from the front: what a loop that stores one element a turn has reached.
 use mathlib.Core.Path.{_≡_, sym, _∙_, ap}
 use mathlib.Core.Bool.{Bool}
 use mathlib.Core.List.{List}
 use Prim.Native.Nat.{ℕ, _+_, _<_, _≤_}
 use native.Mathlib.Decide.{ℕ-discrete, decLt}
 use native.Mathlib.Omega.{arith}
-use lib.Dec.{ltb, lit<}
-use lib.ListN.{set, List·getD-eq-default}
+use lib.Dec.{T, eqb, ltb, eqb→eq, lit<}
+use lib.ListN.{length, set, replicate, length-replicate, getD-replicate, List·getD-eq-default}
 use borrow.Author.Tests.{lt-ltb, le-ltb, eq-eqb, ne-eqb}
-use Rattle.rules.specs.Bits.{pick, row}
+use Rattle.rules.specs.Bits.{pick, row, everyBelow}
+use Rattle.laws.specs.Every.{every-at}
 use Rattle.laws.specs.Holds.{Holds, put, holds-as, holds-put}
 use Rattle.laws.specs.Rows.{Bits}
 
@@ -24,16 +25,11 @@ module _ {A : Type 0} (f g : ℕ → A) where
   upTo-from i k h = ap (λ (b : Bool). pick b (f k) (g k)) (le-ltb k i h)
 
   -- before the first turn
-  pub holds-none : (d : A) {n : ℕ} {l : List A} → Holds d n g l → Holds d n (upTo 0 f g) l
-  holds-none d h = holds-as d (upTo 0 f g) (λ k _. sym (upTo-from 0 k (omega arith))) h
+  pub holds-first : (d : A) {n : ℕ} {l : List A} → Holds d n g l → Holds d n (upTo 0 f g) l
+  holds-first d = holds-as d (upTo 0 f g) (λ k lt. sym (upTo-from 0 k (omega arith)))
 
-  -- after the last
-  pub holds-all : (d : A) {n : ℕ} {l : List A} (i : ℕ) → n ≤ i → Holds d n (upTo i f g) l → Holds d n f l
-  holds-all d i le h = holds-as d f (λ k lt. upTo-below i k (omega arith)) h
-
-  -- the turn: f i is stored at i
-  pub holds-next : (d : A) {n : ℕ} {l : List A} (i : ℕ) (v : A) → i < n → v ≡ f i
-      → Holds d n (upTo i f g) l
+  -- a turn that stores f i at i
+  pub holds-next : (d : A) {n : ℕ} {l : List A} (i : ℕ) (v : A) → i < n → v ≡ f i → Holds d n (upTo i f g) l
       → Holds d n (upTo (i + 1) f g) (set l i v)
   holds-next d {n} i v lt e h = holds-as d (upTo (i + 1) f g) (λ k k<n. at k (ℕ-discrete k i) (decLt k i)) (holds-put d i v lt h)
     where
@@ -44,6 +40,27 @@ module _ {A : Type 0} (f g : ℕ → A) where
           ap (λ (b : Bool). pick b v (upTo i f g k)) (ne-eqb k i q) ∙ upTo-below i k less ∙ sym (upTo-below (i + 1) k (omega arith))
       at k (no q) (no more) =
           ap (λ (b : Bool). pick b v (upTo i f g k)) (ne-eqb k i q) ∙ upTo-from i k (omega arith) ∙ sym (upTo-from (i + 1) k (omega arith))
+
+  -- a turn that stores nothing, since it stands there
+  pub holds-skip : (d : A) {n : ℕ} {l : List A} (i : ℕ) → g i ≡ f i → Holds d n (upTo i f g) l → Holds d n (upTo (i + 1) f g) l
+  holds-skip d i e = holds-as d (upTo (i + 1) f g) (λ k k<n. at k (ℕ-discrete k i) (decLt k i))
+    where
+      at : (k : ℕ) → Dec (k ≡ i) → Dec (k < i) → upTo i f g k ≡ upTo (i + 1) f g k
+      at k (yes q) less = upTo-from i k (omega arith) ∙ ap g q ∙ e ∙ ap f (sym q) ∙ sym (upTo-below (i + 1) k (omega arith))
+      at k (no q) (yes less) = upTo-below i k less ∙ sym (upTo-below (i + 1) k (omega arith))
+      at k (no q) (no more) = upTo-from i k (omega arith) ∙ sym (upTo-from (i + 1) k (omega arith))
+
+  -- where the last turn is done
+  pub holds-whole : (d : A) {n : ℕ} {l : List A} (i : ℕ) → i ≡ n → Holds d n (upTo i f g) l → Holds d n f l
+  holds-whole d i e = holds-as d f (λ k lt. upTo-below i k (omega arith))
+
+-- a new array
+pub holds-new : (n : ℕ) (f : ℕ → ℕ) → Holds 0 n (upTo 0 f (λ k. 0)) (replicate n 0)
+holds-new n f = holds-first f (λ k. 0) 0 (record { long = length-replicate n 0; each = λ k lt. getD-replicate n k 0 0 lt })
+
+-- an array that is written out
+pub holds-computed : (n : ℕ) (f : ℕ → ℕ) (l : List ℕ) → length l ≡ n → T (everyBelow n (λ i. eqb (row l i) (f i))) → Holds 0 n f l
+holds-computed n f l long t = record { long = long; each = λ i lt. eqb→eq _ _ (every-at n (λ i. eqb (row l i) (f i)) t i lt) }
 
 -- a list that holds bits is one of bits
 pub holds-bits : (n : ℕ) (f : ℕ → ℕ) (l : List ℕ) → ((k : ℕ) → k < n → f k < 2) → Holds 0 n f l → Bits l

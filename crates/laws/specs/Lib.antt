@@ -3,3 +3,4 @@ pub mod Rows
 pub mod Every
 pub mod Filled
 pub mod Lists
+pub mod Bytes

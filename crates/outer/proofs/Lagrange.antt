@@ -8,9 +8,8 @@ use lib.Dec.{T, eqb·suc-zero, lit<}
 use borrow.Author.Tests.{ne-eqb}
 use Rattle.rules.specs.Bits.{pick}
 use Rattle.rules.specs.Field.{_⊕_, _⊗_, power}
-use Rattle.outer.specs.Solve.{sum, node, raised, basis, product}
+use Rattle.outer.specs.Solve.{sum, tally, node, raised, basis, product}
 use Rattle.field.proofs.Laws.{⊕-self, ⊕-lt, ⊕-zero-r, ⊗-assoc, ⊗-lt, ⊗-one-l, ⊗-zero-l, ⊗-zero-r, ⊗-⊕-r, alpha-distinct, alpha-lt, no-zero-divisors}
-use Rattle.outer.proofs.Ones.{tally}
 use Rattle.outer.proofs.Poly.{pick-lt, ⊕-zero-same, ⊗-left, sum-same, sum-⊕, sum-⊗, sum-first, sum-one}
 
 -- x f and a f together are (x ⊕ a) f

@@ -1,7 +1,8 @@
--- The ones of a mask are as many as its marked places; the mask of the last r packets has r.
+-- The ones of a mask are as many as its marked places, and so many are before each; the mask of the last r packets has r.
 use mathlib.Core.Path.{_≡_, refl, sym, ap, ap₂, _∙_, subst}
 use Prim.Native.Nat.{ℕ, zero, suc, _+_, _-_, _*_, _/_, _%_, _^_, _≤_, _<_}
-use native.Mathlib.Nat.{add-zero}
+use native.Mathlib.Nat.{add-zero, le-refl}
+use native.Mathlib.Numerals.{add-one}
 use native.Mathlib.Decide.{ℕ-discrete}
 use native.Mathlib.Omega.{arith}
 use lib.Count.{ones, ones-step, ones-cat, ones-ones}
@@ -10,11 +11,7 @@ use lib.Pow.{pow-pos, shl-lt, shl-shr, shr-shr, high, ones-lt, ones-split}
 use borrow.Author.Tests.{eq-eqb, ne-eqb}
 use Rattle.rules.specs.Bits.{pick}
 use Rattle.rules.specs.Outer.{marked}
-
--- f 0 + .. + f (n - 1)
-unfoldable pub tally : (ℕ → ℕ) → ℕ → ℕ
-tally f zero = 0
-tally f (suc n) = tally f n + f n
+use Rattle.outer.specs.Solve.{tally}
 
 pub tally-same : (n : ℕ) {f g : ℕ → ℕ} → ((k : ℕ) → k < n → f k ≡ g k) → tally f n ≡ tally g n
 unfolding tally
@@ -71,3 +68,24 @@ tail-marked r i l =
     ∙ ap (λ (q : ℕ). q / 2 ^ i) (shl-shr (2 ^ r - 1) (16 - r) ∙ ap (λ (n : ℕ). 2 ^ n - 1) parts ∙ ones-split (suc e) i)
     ∙ high (2 ^ suc e - 1) i (ones-lt i))
     ∙ omega (arith, pow-pos e)
+
+-- ---- places: a marked one comes after as many as there are marked before it
+
+tally-le : (f : ℕ → ℕ) (m n : ℕ) → m ≤ n → tally f m ≤ tally f n
+unfolding tally
+tally-le f m zero h = let e : m ≡ 0 = omega arith in rw e (le-refl 0)
+tally-le f m (suc n) h = go (ℕ-discrete m (suc n)) (tally-le f m n)
+  where
+    go : Dec (m ≡ suc n) → (m ≤ n → tally f m ≤ tally f n) → tally f m ≤ tally f n + f n
+    go (yes e) before = rw e (le-refl (tally f (suc n)))
+    go (no ne) before = omega (arith, before (omega arith))
+
+pub tally-next : (f : ℕ → ℕ) (n : ℕ) → tally f (n + 1) ≡ tally f n + f n
+unfolding tally
+tally-next f n = rw (add-one n)
+
+pub tally-lt : (f : ℕ → ℕ) (m n : ℕ) → m < n → f m ≡ 1 → tally f m < tally f n
+tally-lt f m n h e = omega (arith, tally-next f m, tally-le f (m + 1) n (omega arith))
+
+pub place-lt : (m p : ℕ) → m < 2 ^ 16 → ones m ≤ 8 → p < 16 → marked m p ≡ 1 → tally (marked m) p < 8
+place-lt m p fits few l e = omega (arith, tally-lt (marked m) p 16 l e, ones-count 16 m fits)

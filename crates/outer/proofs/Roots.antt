@@ -1,14 +1,13 @@
 -- The generators' roots: a codeword's value is zero there, and the encoder makes codewords.
 use mathlib.Core.Path.{_≡_, refl, sym, ap, ap₂, _∙_, subst}
-use mathlib.Core.Bool.{Bool, true, false, _&&_, _||_}
+use mathlib.Core.Bool.{Bool, true, false, _&&_, _||_, not}
 use Prim.Native.Nat.{ℕ, zero, suc, _+_, _-_, _≤_, _<_}
 use native.Mathlib.Nat.{add-sub-cancel-left}
 use native.Mathlib.Omega.{arith}
 use lib.Dec.{T, eqb, ltb, leb, lit<, lit≤, eqb→eq, ltb→lt}
 use lib.Ieee.Fits.{and-l, and-r}
-use Rattle.rules.specs.Bits.{everyBelow}
-use Rattle.laws.specs.Every.{every-at}
-use borrow.Author.Tests.{lt-ltb, le-ltb}
+use borrow.Author.Count.{below-more}
+use borrow.Author.Tests.{lt-ltb, le-ltb, not-true, not-false}
 use Rattle.rules.specs.Bits.{pick}
 use Rattle.rules.specs.Field.{_⊕_, _⊗_, power, alpha, double, times}
 use Rattle.rules.specs.Outer.{value, generator, remainder, root, isK, Codeword, encoded}
@@ -21,13 +20,22 @@ pub record Rate (r : ℕ) : Type 0 where
   pub most : r ≤ 8
   pub generator-root : (j : ℕ) → j < r → value r (generator r) (root r j) ≡ power (root r j) r
 
--- root j, as a test
+-- a test passes at each number below n
+abbrev all : (ℕ → Bool) → ℕ → Bool
+all t zero = true
+all t (suc n) = t n && all t n
+
+all-at : (t : ℕ → Bool) (n : ℕ) → T (all t n) → (k : ℕ) → k < n → T (t k)
+all-at t zero h k l = absurd (omega arith)
+all-at t (suc n) h k l =
+    below-more (λ (m : ℕ). T (t m)) n (all-at t n (and-r (t n) (all t n) h)) (and-l (t n) (all t n) h) k (omega arith)
+
 isRoot : ℕ → ℕ → Bool
 isRoot r j = eqb (value r (generator r) (root r j)) (power (root r j) r)
 
-rate-of : (r : ℕ) → T (ltb 0 r) → T (leb r 8) → T (everyBelow r (isRoot r)) → Rate r
+rate-of : (r : ℕ) → T (ltb 0 r) → T (leb r 8) → T (all (isRoot r) r) → Rate r
 unfolding isRoot
-rate-of r a b t = record { some = lit< a; most = lit≤ b; generator-root = λ j l. eqb→eq _ _ (every-at r (isRoot r) t j l) }
+rate-of r a b t = record { some = lit< a; most = lit≤ b; generator-root = λ j l. eqb→eq _ _ (all-at (isRoot r) r t j l) }
 
 -- what holds of 8, 12 and 14 holds of every K
 pub by-k : (P : ℕ → Type 0) → P 8 → P 12 → P 14 → (k : ℕ) → T (isK k) → P k
@@ -38,6 +46,16 @@ by-k P a b c k = go (eqb k 8) (eqb k 12) (eqb k 14) (eqb→eq k 8) (eqb→eq k 1
     go false true z e f g h = subst P (sym (f tt)) b
     go false false true e f g h = subst P (sym (g tt)) c
     go false false false e f g h = absurd h
+
+pub k-range : (k : ℕ) → T (isK k) → (8 ≤ k) × (k ≤ 14)
+k-range = by-k (λ (k : ℕ). (8 ≤ k) × (k ≤ 14)) (lit≤ tt, lit≤ tt) (lit≤ tt, lit≤ tt) (lit≤ tt, lit≤ tt)
+
+-- what a branch on `!b` says
+pub passed : {b x : Bool} → b ≡ x → not b ≡ false → T x
+passed {b} e t = subst T (sym (not-false b t) ∙ e) tt
+
+pub refused : {b x : Bool} → b ≡ x → not b ≡ true → ¬ T x
+refused {b} e t = subst T (sym e ∙ not-true b t)
 
 pub rate : (k : ℕ) → T (isK k) → Rate (16 - k)
 unfolding isRoot value generator power alpha double _⊗_ times
@@ -124,8 +142,8 @@ encoded-codeword r d h =
     }
 
 -- the 16 bytes make the codeword
-pub codeword-same : {r : ℕ} {v w : ℕ → ℕ} → Rate r → ((p : ℕ) → p < 16 → v p ≡ w p) → Codeword r w → Codeword r v
-codeword-same {r} {v} {w} rate e c =
+pub codeword-same : {r : ℕ} {v w : ℕ → ℕ} → r ≤ 8 → ((p : ℕ) → p < 16 → v p ≡ w p) → Codeword r w → Codeword r v
+codeword-same {r} {v} {w} most e c =
     record {
       bytes = λ p l. subst (λ (b : ℕ). b < 256) (sym (e p l)) (c .bytes p l);
       parity = λ i l. e (16 - r + i) (omega arith) ∙ c .parity i l ∙ sym (remainder-same r (16 - r) (λ k m. e k (omega arith)) i);

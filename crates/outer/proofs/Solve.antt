@@ -152,7 +152,7 @@ module _ {r lost : ℕ} (fits : lost < 2 ^ 16) (few : ones lost ≤ r) where
 
     -- and where what is worked out is none, none does
     pub none-agrees : {c : ℕ → ℕ} → ¬ Codeword r (solved r lost c) → (w : ℕ → ℕ) → Codeword r w → Agree lost w c → ⊥
-    none-agrees bad w good agree = bad (codeword-same rate (solved-is fits few (codeword-zeros rate good) agree) good)
+    none-agrees bad w good agree = bad (codeword-same (rate .most) (solved-is fits few (codeword-zeros rate good) agree) good)
 
 -- bytes whose values at the roots are zero are a codeword: the encoder makes one that starts with the same data
 pub root-codeword : {r : ℕ} {c : ℕ → ℕ} → Rate r → Zeros r c → Codeword r c

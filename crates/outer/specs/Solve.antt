@@ -1,7 +1,7 @@
 -- How lost packets are worked out: the inverse of the system that the roots make, by Lagrange's polynomials.
 -- proofs/Solve.antt shows that it is right.
 use mathlib.Core.Bool.{Bool, _&&_, not}
-use Prim.Native.Nat.{ℕ, zero, suc, _-_, _/_}
+use Prim.Native.Nat.{ℕ, zero, suc, _+_, _-_, _/_}
 use lib.Dec.{eqb}
 use Rattle.rules.specs.Bits.{pick}
 use Rattle.rules.specs.Field.{_⊕_, _⊗_, power, alpha, inverse}
@@ -11,6 +11,11 @@ use Rattle.rules.specs.Outer.{value, root, marked}
 unfoldable pub sum : ℕ → (ℕ → ℕ) → ℕ
 sum zero f = 0
 sum (suc n) f = sum n f ⊕ f n
+
+-- f 0 + .. + f (n - 1), as numbers
+unfoldable pub tally : (ℕ → ℕ) → ℕ → ℕ
+tally f zero = 0
+tally f (suc n) = tally f n + f n
 
 -- The value of a column at root j is the sum over the packets of the byte, times the weight, times the node to the power j.
 abbrev pub node : ℕ → ℕ

@@ -10,7 +10,7 @@ use Rattle.rules.specs.Bits.{row}
 use Rattle.rules.specs.Slots.{both, scramblerStep, scramblerState, scrambling}
 use Rattle.rules.specs.Block.{unscrambled}
 use Rattle.laws.specs.Holds.{Holds, holds-self}
-use Rattle.laws.specs.Filled.{upTo, upTo-from, holds-none, holds-all, holds-next}
+use Rattle.laws.specs.Filled.{upTo, upTo-from, holds-first, holds-whole, holds-next}
 use Rattle.slots.proofs.Twice.{state-lt}
 use Rattle.slots.proofs.scramble.Statement.{statement}
 use Rattle.slots.proofs.scramble.Tie as tie
@@ -28,8 +28,8 @@ module _ (seed mask : ℕ) (l₀ : List ℕ) (i : ℕ) {l : List ℕ} where
   as-before : i < length l₀ → Part seed mask l₀ i l → row l i ≡ row l₀ i
   as-before lt h = h .each i lt ∙ upTo-from (after seed mask l₀) (row l₀) i i (le-refl i)
 
-  whole : length l₀ ≤ i → Part seed mask l₀ i l → Holds 0 (length l₀) (after seed mask l₀) l
-  whole le h = holds-all (after seed mask l₀) (row l₀) 0 i le h
+  whole : i ≡ length l₀ → Part seed mask l₀ i l → Holds 0 (length l₀) (after seed mask l₀) l
+  whole e h = holds-whole (after seed mask l₀) (row l₀) 0 i e h
 
 abbrev Inv-loop : tie.InvT-loop
 Inv-loop seed mask bits₀ state₀ i₀ i-end bits state i =
@@ -47,7 +47,7 @@ next-state seed i e f = f ∙ ap scramblerStep e ∙ rw add-one
 
 loop-holds : tie.Need-loop-holds Inv-loop μ-loop
 unfolding scramblerState
-loop-holds c = (holds-none _ _ 0 (holds-self 0 _), refl, c .before .pre, omega arith)
+loop-holds c = (holds-first _ _ 0 (holds-self 0 _), refl, c .before .pre, omega arith)
 
 slice-read-added : tie.Need-slice-read-added Inv-loop μ-loop
 slice-read-added c = omega arith

@@ -1,0 +1,87 @@
+// The columns worked out, by the matrix for the lost packets.
+ghost use mathlib.Core.Path.{_≡_};
+ghost use Prim.Native.Nat.{_<_, _≤_};
+ghost use lib.Count.{ones};
+ghost use lib.ListN.{length};
+ghost use Rattle.rules.specs.Bits.{row};
+ghost use Rattle.rules.specs.Field.{_⊗_};
+ghost use Rattle.rules.specs.Outer as rule;
+ghost use Rattle.rules.specs.Outer.{column};
+ghost use Rattle.laws.specs.Holds.{Holds};
+ghost use Rattle.outer.specs.Solve as solve;
+ghost use Rattle.outer.specs.Solve.{sum, syndrome};
+ghost use Rattle.outer.specs.Steps.{Starts, Rows, Works};
+use super::columns::kept;
+use super::columns::lost_at;
+use super::columns::put;
+use super::division::is_codeword;
+use super::products::times_plus;
+use field::Element;
+
+// The value at x of the polynomial whose coefficients are the column's bytes.
+fn value(c: [u8; 16], x: u8) -> u8
+    ensures { λ v. ⌜ v ≡ rule.value 16 (row c) x ⌝ }
+{
+    let mut v = 0u8;
+    for p in 0..16 {
+        v = times_plus(x, v, c[p]);
+    }
+    v
+}
+
+// Its values at the roots.
+fn syndromes(r: usize, c: [u8; 16]) -> [u8; 8]
+    requires { ⌜ r ≤ 8 ⌝ }
+    ensures { λ s. ⌜ Starts r (syndrome r (row c)) s ⌝ }
+{
+    let mut x = Element::ALPHA.power(128 - (r as u32) / 2);
+    let mut s = [0u8; 8];
+    for j in 0..r {
+        s[j] = value(c, x.0);
+        x = Element::ALPHA.product(x);
+    }
+    s
+}
+
+fn dot(r: usize, a: [u8; 8], b: [u8; 8]) -> u8
+    requires { ⌜ r ≤ 8 ⌝ }
+    ensures { λ v. ⌜ v ≡ sum r (λ j. row a j ⊗ row b j) ⌝ }
+{
+    let mut v = 0u8;
+    for j in 0..r {
+        v = times_plus(a[j], b[j], v);
+    }
+    v
+}
+
+// Column j, with the only bytes for the lost packets that can make a codeword.
+fn solved(r: usize, lost: u16, m: [[u8; 8]; 8], block: &[u8], j: usize) -> [u8; 16]
+    requires { ⌜ (r ≤ 8) × (ones lost ≤ 8) × Rows 16 r lost m × (length (now block) ≡ 1952) × (j < 122) ⌝ }
+    ensures { λ c. ⌜ Holds 0 16 (solve.solved r lost (column (now (block .entry)) j)) c ⌝ }
+{
+    let mut c = kept(lost, block, j);
+    let s = syndromes(r, c);
+    let mut i = 0;
+    for p in 0..16 {
+        if lost_at(lost, p) {
+            c[p] = dot(r, m[i], s);
+            i += 1;
+        }
+    }
+    c
+}
+
+// All columns to out, up to one that has no codeword.
+pub fn all_solved(r: usize, lost: u16, m: [[u8; 8]; 8], block: &[u8], out: &mut [u8]) -> bool
+    requires { ⌜ (r ≤ 8) × (ones lost ≤ 8) × Rows 16 r lost m × (length (now block) ≡ 1952) × (length (now out) ≡ 1952) ⌝ }
+    ensures { λ b. ⌜ Works r lost (now (block .entry)) (now (out .exit)) b ⌝ }
+{
+    for j in 0..122 {
+        let c = solved(r, lost, m, block, j);
+        if !is_codeword(r, c) {
+            return false;
+        }
+        put(c, j, out);
+    }
+    true
+}
