@@ -1,17 +1,21 @@
 -- What coding and judging one packet answer, for every input.
 use mathlib.Core.Path.{_≡_}
+use mathlib.Core.Bool.{Bool}
 use mathlib.Core.List.{List}
 use Prim.Native.Nat.{ℕ}
-use lib.Dec.{T}
+use lib.Dec.{T, eqb, ltb}
 use lib.ListN.{length, replicate}
 use Rattle.rules.specs.Bits.{row}
 use Rattle.rules.specs.Packet.{packetBit}
-use Rattle.rules.specs.Slots.{isMode, packetBits, coded}
-use Rattle.rules.specs.Block.{verdict, decidedData, byteOf}
+use Rattle.rules.specs.Interleaver.{bitInterleaved}
+use Rattle.rules.specs.Points.{doubtful}
+use Rattle.rules.specs.Slots.{isMode, rate, packetBits, coded}
+use Rattle.rules.specs.Block.{everyBelow, verdict, decidedData, byteOf}
 use Rattle.rules.specs.declared.Coding.{Coding}
 use Rattle.rules.specs.declared.Coding.the-variants.{Coded, WrongMode, WrongLength}
 use Rattle.rules.specs.declared.Judgement.{Judgement}
 use Rattle.laws.specs.Holds.{Holds}
+use Rattle.turbo.specs.Streams.{place}
 
 -- coding 122 bytes into as many bits as a packet of the mode has; what is too short or too long is refused and nothing is written
 abbrev pub CodingRule : ℕ → List ℕ → List ℕ → List ℕ → Coding → Type 0
@@ -19,6 +23,17 @@ CodingRule m d before after Coded =
     T (isMode m) × (length d ≡ 122) × (length before ≡ packetBits m) × Holds 0 (packetBits m) (coded m (packetBit (row d))) after
 CodingRule m d before after WrongMode = (¬ T (isMode m)) × (after ≡ before)
 CodingRule m d before after WrongLength = T (isMode m) × (¬ ((length d ≡ 122) × (length before ≡ packetBits m))) × (after ≡ before)
+
+-- no bit of n is doubtful; two rows have the same n bits
+abbrev pub plainBits : ℕ → (ℕ → ℕ) → Bool
+plainBits n v = everyBelow n (λ i. ltb (v i) doubtful)
+
+abbrev pub sameBits : ℕ → (ℕ → ℕ) → (ℕ → ℕ) → Bool
+sameBits n v w = everyBelow n (λ i. eqb (v i) (w i))
+
+-- bit i of what is sent, where g has the streams
+abbrev pub sentFrom : ℕ → (ℕ → ℕ) → ℕ → ℕ
+sentFrom m g i = g (place (rate m) (bitInterleaved (packetBits m) i))
 
 -- judging a packet's decided bits, 2 for a doubtful one
 pub record JudgingRule (m : ℕ) (v : ℕ → ℕ) (a : Judgement) : Type 0 where

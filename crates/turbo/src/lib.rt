@@ -1,25 +1,213 @@
 // One packet's coded bits, and the judgement on decided ones. A bit is a byte that is 0 or 1.
 ghost use mathlib.Core.Path.{_≡_};
-ghost use Prim.Native.Nat.{ℕ, _<_};
+ghost use mathlib.Core.Bool.{_&&_};
+ghost use Prim.Native.Nat.{ℕ, _+_, _≤_, _<_};
 ghost use lib.Dec.{T};
-ghost use lib.ListN.{length};
+ghost use lib.ListN.{length, replicate};
 ghost use Rattle.rules.specs.Bits.{row};
-ghost use Rattle.rules.specs.Interleaver.{tableD, interleaved};
+ghost use Rattle.rules.specs.Interleaver.{tableD, interleaved, bitInterleaved, bitDeinterleaved};
+ghost use Rattle.rules.specs.Turbo as rule;
+ghost use Rattle.rules.specs.Turbo.{half, third};
 ghost use Rattle.rules.specs.Slots.{isMode, rate, packetBits, second};
+ghost use Rattle.rules.specs.Block.{byteOf};
 ghost use Rattle.laws.specs.Holds.{Holds};
 ghost use Rattle.laws.specs.Rows.{Bits};
 ghost use Rattle.turbo.specs.Streams as streams;
 ghost use Rattle.turbo.specs.Streams.{stream};
-ghost use Rattle.turbo.specs.Coded.{CodingRule, JudgingRule};
+ghost use Rattle.turbo.specs.Within.{withData, withEnds, withStreams, Puts};
+ghost use Rattle.turbo.specs.Coded.{CodingRule, JudgingRule, plainBits, sameBits, sentFrom};
 use rules::Coding;
 use rules::Judgement;
+
+// Rate 1/3: where the outputs of a bit stand, and those that end the first encoder.
+const THIRD_DATA: [u16; 3] = [0, 997, 2991];
+
+const THIRD_TAIL: [u16; 9] = [994, 994, 1991, 995, 995, 1992, 996, 996, 1993];
+
+// Rate 1/2: the same, of two bits.
+const HALF_DATA: [u16; 4] = [0, 997, 1, 2992];
+
+const HALF_TAIL: [u16; 6] = [994, 1991, 995, 1992, 996, 1993];
+
+fn wide(x: u16) -> usize
+    ensures { λ r. ⌜ (r ≡ x) × (r < 65536) ⌝ }
+{
+    x as usize
+}
+
+fn place_third(n: usize) -> usize
+    requires { ⌜ n < 3000 ⌝ }
+    ensures { λ r. ⌜ r ≡ streams.place third n ⌝ }
+{
+    if n < 2982 {
+        n / 3 + wide(THIRD_DATA[n % 3])
+    } else {
+        let t = n - 2982;
+        1994 * (t / 9) + wide(THIRD_TAIL[t % 9])
+    }
+}
+
+fn place_half(n: usize) -> usize
+    requires { ⌜ n < 2000 ⌝ }
+    ensures { λ r. ⌜ r ≡ streams.place half n ⌝ }
+{
+    if n < 1988 {
+        n / 4 * 2 + wide(HALF_DATA[n % 4])
+    } else {
+        let t = n - 1988;
+        1994 * (t / 6) + wide(HALF_TAIL[t % 6])
+    }
+}
 
 // The place, among the four streams, of bit n of what is sent.
 fn place(mode: u8, n: usize) -> usize
     requires { ⌜ T (isMode mode) × (n < packetBits mode) ⌝ }
     ensures { λ r. ⌜ (r ≡ streams.place (rate mode) n) × (r < 3988) ⌝ }
 {
-    0
+    if mode == 0 {
+        place_third(n)
+    } else {
+        place_half(n)
+    }
+}
+
+fn packet_bits(mode: u8) -> usize
+    ensures { λ r. ⌜ (r ≡ packetBits mode) × (2000 ≤ r) × (r ≤ 3000) ⌝ }
+{
+    if mode == 0 { 3000 } else { 2000 }
+}
+
+// The place of what is sent as bit i: four columns are written down and read row by row.
+fn sent_place(mode: u8, i: usize) -> usize
+    requires { ⌜ T (isMode mode) × (i < packetBits mode) ⌝ }
+    ensures { λ r. ⌜ (r ≡ streams.place (rate mode) (bitInterleaved (packetBits mode) i)) × (r < 3988) ⌝ }
+{
+    let rows = packet_bits(mode) / 4;
+    place(mode, rows * (i % 4) + i / 4)
+}
+
+// As which bit the packet's own bit i is sent.
+fn own_place(mode: u8, i: usize) -> usize
+    requires { ⌜ T (isMode mode) × (i < 994) ⌝ }
+    ensures { λ r. ⌜ (r ≡ bitDeinterleaved (packetBits mode) (rule.dataPlace (rate mode) i)) × (r < packetBits mode) ⌝ }
+{
+    let rows = packet_bits(mode) / 4;
+    let n = if mode == 0 { 3 * i } else { 2 * i };
+    4 * (n % rows) + n / rows
+}
+
+// What the feedback of register s adds to the bit that comes in.
+fn feedback(s: u8) -> u8
+    ensures { λ r. ⌜ r ≡ rule.feedback s ⌝ }
+{
+    (s / 2 % 2 + s % 2) % 2
+}
+
+// The parity where a enters register s.
+fn parity(a: u8, s: u8) -> u8
+    requires { ⌜ (a < 2) × (s < 8) ⌝ }
+    ensures { λ r. ⌜ r ≡ rule.parityOf a s ⌝ }
+{
+    (a + s / 4 + s % 2) % 2
+}
+
+// What enters register s at bit b.
+fn entering(b: u8, s: u8) -> u8
+    requires { ⌜ b < 2 ⌝ }
+    ensures { λ r. ⌜ (r ≡ rule.entering b s) × (r < 2) ⌝ }
+{
+    (b + feedback(s)) % 2
+}
+
+// a enters register s.
+fn shifted(a: u8, s: u8) -> u8
+    requires { ⌜ (a < 2) × (s < 8) ⌝ }
+    ensures { λ r. ⌜ (r ≡ rule.shift a s) × (r < 8) ⌝ }
+{
+    a * 4 + s / 2
+}
+
+// What an encoder puts out in one period, and its register then.
+struct Period {
+    x: u8,
+    y0: u8,
+    register: u8,
+}
+
+// The period of bit b.
+fn data_period(b: u8, s: u8) -> Period
+    requires { ⌜ (b < 2) × (s < 8) ⌝ }
+    ensures { λ r. ⌜ Puts b (rule.entering b s) s r ⌝ }
+{
+    let a = entering(b, s);
+    Period {
+        x: b,
+        y0: parity(a, s),
+        register: shifted(a, s),
+    }
+}
+
+// A period that ends the encoder: its register input is zero, and X is the feedback bit.
+fn last_period(s: u8) -> Period
+    requires { ⌜ s < 8 ⌝ }
+    ensures { λ r. ⌜ Puts (rule.feedback s) 0 s r ⌝ }
+{
+    let a = 0;
+    Period {
+        x: feedback(s),
+        y0: parity(a, s),
+        register: shifted(a, s),
+    }
+}
+
+// The three periods that end the encoder whose two streams begin at base.
+fn ended(all: [u8; 3988], base: usize, register: u8) -> [u8; 3988]
+    requires { ⌜ (base + 1994 ≤ 3988) × (register < 8) ⌝ }
+    ensures { λ r. ⌜ Holds 0 3988 (withEnds base register (row all)) r ⌝ }
+{
+    let mut s = all;
+    let mut state = register;
+    let mut k = 0;
+    while k < 3 {
+        let p = last_period(state);
+        s[base + 994 + k] = p.x;
+        s[base + 1991 + k] = p.y0;
+        state = p.register;
+        k = k + 1;
+    }
+    s
+}
+
+// One encoder's two streams: X is at base, and Y0 after it is filled in, with the ends of both.
+fn encoded(all: [u8; 3988], base: usize) -> [u8; 3988]
+    requires { ⌜ (base + 1994 ≤ 3988) × Bits all ⌝ }
+    ensures { λ r. ⌜ Holds 0 3988 (withStreams base (row all)) r ⌝ }
+{
+    let mut s = all;
+    let mut register = 0u8;
+    let mut i = 0;
+    while i < 994 {
+        let p = data_period(s[base + i], register);
+        s[base + 997 + i] = p.y0;
+        register = p.register;
+        i = i + 1;
+    }
+    ended(s, base, register)
+}
+
+// The 994 bits that each encoder reads, at the beginning of X and of X'.
+fn entered(x: [u8; 994], addresses: [u16; 994]) -> [u8; 3988]
+    requires { ⌜ Holds 0 994 (interleaved 5 (row tableD) 994) addresses ⌝ }
+    ensures { λ r. ⌜ Holds 0 3988 (withData (row x)) r ⌝ }
+{
+    let mut s = [0u8; 3988];
+    let mut i = 0;
+    while i < 994 {
+        s[i] = x[i];
+        s[1994 + i] = x[wide(addresses[i])];
+        i = i + 1;
+    }
+    s
 }
 
 // The four streams of 994 bits; the addresses are the interleaver's.
@@ -27,14 +215,145 @@ fn streams_of(x: [u8; 994], addresses: [u16; 994]) -> [u8; 3988]
     requires { ⌜ Bits x × Holds 0 994 (interleaved 5 (row tableD) 994) addresses ⌝ }
     ensures { λ r. ⌜ Holds 0 3988 (stream (row x) (second (row x))) r ⌝ }
 {
-    [0u8; 3988]
+    let s = entered(x, addresses);
+    let s = encoded(s, 0);
+    encoded(s, 1994)
+}
+
+// What is sent, taken from the streams.
+fn send(mode: u8, all: [u8; 3988], out: &mut [u8])
+    requires { ⌜ T (isMode mode) × (length (now out) ≡ packetBits mode) ⌝ }
+    ensures { λ r. ⌜ Holds 0 (packetBits mode) (sentFrom mode (row all)) (now (out .exit)) ⌝ }
+{
+    let mut i = 0;
+    while i < out.len() {
+        out[i] = all[sent_place(mode, i)];
+        i = i + 1;
+    }
+}
+
+// The bits that enter the encoders, without the six tail zeros.
+fn without_tail(bits: [u8; 1000]) -> [u8; 994]
+    ensures { λ r. ⌜ Holds 0 994 (row bits) r ⌝ }
+{
+    let mut x = [0u8; 994];
+    let mut i = 0;
+    while i < 994 {
+        x[i] = bits[i];
+        i = i + 1;
+    }
+    x
+}
+
+// One packet of 122 bytes, coded and interleaved; the addresses are the interleaver's.
+pub fn code_with(addresses: [u16; 994], mode: u8, data: &[u8], out: &mut [u8]) -> Coding
+    requires { ⌜ Holds 0 994 (interleaved 5 (row tableD) 994) addresses ⌝ }
+    ensures { λ r. ⌜ CodingRule mode (now («data» .entry)) (now (out .entry)) (now (out .exit)) r ⌝ }
+{
+    if mode > 1 {
+        return Coding::WrongMode;
+    }
+    if data.len() != 122 {
+        return Coding::WrongLength;
+    }
+    if out.len() != packet_bits(mode) {
+        return Coding::WrongLength;
+    }
+    let x = without_tail(packet::bits_of(data));
+    send(mode, streams_of(x, addresses), out);
+    Coding::Coded
 }
 
 // One packet of 122 bytes, coded and interleaved.
 pub fn code(mode: u8, data: &[u8], out: &mut [u8]) -> Coding
     ensures { λ r. ⌜ CodingRule mode (now («data» .entry)) (now (out .entry)) (now (out .exit)) r ⌝ }
 {
-    Coding::WrongMode
+    code_with(interleaver::addresses(), mode, data, out)
+}
+
+fn both(a: bool, b: bool) -> bool
+    ensures { λ r. ⌜ r ≡ (a && b) ⌝ }
+{
+    a && b
+}
+
+// Whether no decided bit is doubtful.
+fn plain(v: &[u8]) -> bool
+    ensures { λ r. ⌜ r ≡ plainBits (length (now (v .entry))) (row (now (v .entry))) ⌝ }
+{
+    let mut ok = true;
+    let mut i = 0;
+    while i < v.len() {
+        ok = both(ok, v[i] < 2);
+        i = i + 1;
+    }
+    ok
+}
+
+// Whether the decided bits are those that the streams would have sent.
+fn same(mode: u8, v: &[u8], all: [u8; 3988]) -> bool
+    requires { ⌜ T (isMode mode) × (length (now v) ≡ packetBits mode) ⌝ }
+    ensures { λ r. ⌜ r ≡ sameBits (packetBits mode) (row (now (v .entry))) (sentFrom mode (row all)) ⌝ }
+{
+    let mut ok = true;
+    let mut i = 0;
+    while i < v.len() {
+        ok = both(ok, v[i] == all[sent_place(mode, i)]);
+        i = i + 1;
+    }
+    ok
+}
+
+// The 122 bytes of a packet's bits.
+fn bytes_of(x: [u8; 994]) -> [u8; 122]
+    requires { ⌜ Bits x ⌝ }
+    ensures { λ r. ⌜ Holds 0 122 (byteOf (row x)) r ⌝ }
+{
+    let mut bytes = [0u8; 122];
+    let mut j = 0;
+    while j < 122 {
+        bytes[j] = packet::byte_of(&x, j);
+        j = j + 1;
+    }
+    bytes
+}
+
+fn refused(reason: u8) -> Judgement
+    ensures { λ r. ⌜ (r .reason ≡ reason) × (r .bytes ≡ replicate 122 0) ⌝ }
+{
+    Judgement {
+        reason,
+        bytes: [0u8; 122],
+    }
+}
+
+// Judges as many decided bits as a packet of the mode has; the addresses are the interleaver's.
+pub fn judge_with(addresses: [u16; 994], mode: u8, v: &[u8]) -> Judgement
+    requires { ⌜ Holds 0 994 (interleaved 5 (row tableD) 994) addresses × T (isMode mode) × (length (now v) ≡ packetBits mode) ⌝ }
+    ensures { λ r. ⌜ JudgingRule mode (row (now (v .entry))) r ⌝ }
+{
+    if !plain(v) {
+        return refused(12);
+    }
+    let mut x = [0u8; 994];
+    let mut i = 0;
+    while i < 994 {
+        x[i] = v[own_place(mode, i)];
+        i = i + 1;
+    }
+    if !packet::check_right(&x) {
+        return refused(13);
+    }
+    if !packet::reserved_right(&x) {
+        return refused(14);
+    }
+    if !same(mode, v, streams_of(x, addresses)) {
+        return refused(15);
+    }
+    Judgement {
+        reason: 0,
+        bytes: bytes_of(x),
+    }
 }
 
 // Judges as many decided bits as a packet of the mode has.
@@ -42,8 +361,5 @@ pub fn judge(mode: u8, v: &[u8]) -> Judgement
     requires { ⌜ T (isMode mode) × (length (now v) ≡ packetBits mode) ⌝ }
     ensures { λ r. ⌜ JudgingRule mode (row (now (v .entry))) r ⌝ }
 {
-    Judgement {
-        reason: 15,
-        bytes: [0u8; 122],
-    }
+    judge_with(interleaver::addresses(), mode, v)
 }

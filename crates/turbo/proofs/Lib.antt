@@ -1,0 +1,6 @@
+pub mod Streams
+pub mod Modes
+pub mod Accepted
+pub mod Within
+pub mod Filling
+pub mod Checks

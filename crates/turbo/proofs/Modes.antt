@@ -1,0 +1,117 @@
+-- A packet's coded bits in each mode: places among the streams, read through the bit interleaver. All that a mode has to pass is one computed test.
+use mathlib.Core.Path.{_≡_, sym, ap, ap₂, _∙_}
+use Prim.Native.Nat.{ℕ, _+_, _*_, _/_, _%_, _<_, _≤_}
+use native.Mathlib.Nat.{mod-lt, div-add-mod, div-lt-iff-lt-mul, mul-le-mul-left}
+use native.Mathlib.Omega.{arith}
+use lib.Dec.{T, eqb, ltb→lt, eqb→eq}
+use Rattle.rules.specs.Bits.{row}
+use Rattle.rules.specs.Interleaver.{tableD, interleaved, bitInterleaved, bitDeinterleaved}
+use Rattle.rules.specs.Turbo.{codedLength, codedBit, dataPlace}
+use Rattle.rules.specs.Slots.{isMode, rate, packetBits, second, coded}
+use Rattle.rules.specs.Block.{decidedData}
+use Rattle.laws.specs.Every.{every-at}
+use Rattle.interleaver.proofs.Interleaving.{interleaved5-lt}
+use Rattle.turbo.specs.Streams.{stream, place}
+use Rattle.turbo.specs.Coded.{sameBits, sentFrom}
+use Rattle.turbo.proofs.Checks.{every-same}
+use Rattle.turbo.proofs.Streams.{coded-stream, place-lt, own-coded, stream-bit, stream-same}
+
+-- ---- the bit interleaver, over any number of bits that four divides
+
+module _ (L : ℕ) (four : L ≡ 4 * (L / 4)) where
+  interleaved-lt : (i : ℕ) → i < L → bitInterleaved L i < L
+  interleaved-lt i lt =
+      let column : i % 4 ≤ 3 = omega arith in
+      omega (arith, mul-le-mul-left (L / 4) column)
+
+  -- n's column
+  column-lt : (n : ℕ) → n < L → n / (L / 4) < 4
+  column-lt n lt =
+      let pos : 0 < L / 4 = omega arith in
+      div-lt-iff-lt-mul {y = 4} pos .1 (omega arith)
+
+  deinterleaved-lt : (n : ℕ) → n < L → bitDeinterleaved L n < L
+  deinterleaved-lt n lt =
+      let pos : 0 < L / 4 = omega arith in
+      omega (arith, column-lt n lt, mod-lt n pos)
+
+  deinterleaved-back : (n : ℕ) → n < L → bitInterleaved L (bitDeinterleaved L n) ≡ n
+  deinterleaved-back n lt =
+      let inside = column-lt n lt in
+      let column : bitDeinterleaved L n % 4 ≡ n / (L / 4) = omega arith in
+      let place : bitDeinterleaved L n / 4 ≡ n % (L / 4) = omega arith in
+      ap₂ (λ (a b : ℕ). L / 4 * a + b) column place ∙ div-add-mod n (L / 4)
+
+-- ---- the streams of a packet
+
+second-same : (x y : ℕ → ℕ) → ((i : ℕ) → i < 994 → x i ≡ y i) → (i : ℕ) → i < 994 → second x i ≡ second y i
+second-same x y same i lt = same (interleaved 5 (row tableD) 994 i) (interleaved5-lt i lt)
+
+-- they go by its 994 bits
+pub streams-same : (x y : ℕ → ℕ) → ((i : ℕ) → i < 994 → x i ≡ y i) → (k : ℕ) → stream x (second x) k ≡ stream y (second y) k
+streams-same x y same = stream-same x (second x) y (second y) same (second-same x y same)
+
+-- and are bits
+pub streams-bit : (x : ℕ → ℕ) → ((i : ℕ) → i < 994 → x i < 2) → (k : ℕ) → stream x (second x) k < 2
+streams-bit x bit = stream-bit x (second x) bit (λ i lt. bit (interleaved 5 (row tableD) 994 i) (interleaved5-lt i lt))
+
+-- ---- each mode
+
+module _ (m : ℕ) (mode : T (isMode m)) where
+  -- two computed tests: four divides the number of bits, and it is the number that the rate makes
+  whole : packetBits m ≡ 4 * (packetBits m / 4)
+  whole = eqb→eq _ _ (every-at 2 (λ k. eqb (packetBits k) (4 * (packetBits k / 4))) tt m (ltb→lt m 2 mode))
+
+  long : codedLength (rate m) 994 ≡ packetBits m
+  long = eqb→eq _ _ (every-at 2 (λ k. eqb (codedLength (rate k) 994) (packetBits k)) tt m (ltb→lt m 2 mode))
+
+  -- which of the bits before the bit interleaver is sent as bit i, and where that stands in the streams
+  pub source-lt : (i : ℕ) → i < packetBits m → bitInterleaved (packetBits m) i < packetBits m
+  source-lt = interleaved-lt (packetBits m) whole
+
+  pub rate-place-lt : (n : ℕ) → n < packetBits m → place (rate m) n < 3988
+  rate-place-lt n lt = place-lt (rate m) n (rw long lt)
+
+  -- where bit i of x itself is sent
+  own-lt : (i : ℕ) → i < 994 → dataPlace (rate m) i < packetBits m
+  own-lt i lt = rw long at (own-coded (rate m) (λ k. 0) (λ k. 0) i lt .0)
+
+  pub sent-lt : (i : ℕ) → i < 994 → bitDeinterleaved (packetBits m) (dataPlace (rate m) i) < packetBits m
+  sent-lt i lt = deinterleaved-lt (packetBits m) whole (dataPlace (rate m) i) (own-lt i lt)
+
+  -- bit i of what is sent, in the streams
+  pub coded-at : (x : ℕ → ℕ) (i : ℕ) → i < packetBits m → coded m x i ≡ stream x (second x) (place (rate m) (bitInterleaved (packetBits m) i))
+  unfolding coded
+  coded-at x i lt = coded-stream (rate m) x (second x) (bitInterleaved (packetBits m) i) (rw long (source-lt i lt))
+
+  -- and in any row that has them
+  pub sent-coded : (x g : ℕ → ℕ)
+      → ((k : ℕ) → k < 3988 → g k ≡ stream x (second x) k)
+      → (i : ℕ)
+      → i < packetBits m
+      → sentFrom m g i ≡ coded m x i
+  sent-coded x g has i lt = has _ (rate-place-lt _ (source-lt i lt)) ∙ sym (coded-at x i lt)
+
+  -- the data that the sent bits decide to
+  pub decided-coded : (x : ℕ → ℕ) (i : ℕ) → i < 994 → decidedData m (coded m x) i ≡ x i
+  unfolding coded
+  decided-coded x i lt =
+      ap (codedBit (rate m) x (second x) 994) (deinterleaved-back (packetBits m) whole (dataPlace (rate m) i) (own-lt i lt))
+      ∙ own-coded (rate m) x (second x) i lt .1
+
+  -- what is sent goes by the 994 bits, and is bits
+  pub coded-same : (x y : ℕ → ℕ) → ((i : ℕ) → i < 994 → x i ≡ y i) → (i : ℕ) → i < packetBits m → coded m x i ≡ coded m y i
+  coded-same x y same i lt =
+      coded-at x i lt ∙ streams-same x y same (place (rate m) (bitInterleaved (packetBits m) i)) ∙ sym (coded-at y i lt)
+
+  pub coded-bit : (x : ℕ → ℕ) → ((i : ℕ) → i < 994 → x i < 2) → (i : ℕ) → i < packetBits m → coded m x i < 2
+  coded-bit x bit i lt = rw (coded-at x i lt) (streams-bit x bit (place (rate m) (bitInterleaved (packetBits m) i)))
+
+  -- so bits are compared with what is sent by comparing them with the streams of the same 994 bits
+  pub sent-same : (v x y g : ℕ → ℕ)
+      → ((k : ℕ) → k < 3988 → g k ≡ stream x (second x) k)
+      → ((i : ℕ) → i < 994 → x i ≡ y i)
+      → sameBits (packetBits m) v (sentFrom m g) ≡ sameBits (packetBits m) v (coded m y)
+  sent-same v x y g has same =
+      every-same (packetBits m) (λ i. eqb (v i) (sentFrom m g i)) (λ i. eqb (v i) (coded m y i))
+      (λ i lt. ap (eqb (v i)) (sent-coded x g has i lt ∙ coded-same x y same i lt))

@@ -1,0 +1,136 @@
+-- Rows that hold a part of another: what stands where, and the turn of a loop that stores the next element.
+use mathlib.Core.Path.{_≡_, sym, ap, _∙_}
+use mathlib.Core.Bool.{Bool, true, false}
+use mathlib.Core.List.{List}
+use Prim.Native.Nat.{ℕ, _+_, _-_, _<_, _≤_}
+use native.Mathlib.Nat.{zero-add, sub-zero}
+use native.Mathlib.Decide.{ℕ-discrete, decLt}
+use native.Mathlib.Omega.{arith}
+use lib.Dec.{ltb}
+use lib.ListN.{length, set, replicate, length-replicate, getD-replicate, List·getD-eq-default}
+use borrow.Author.Tests.{lt-ltb, le-ltb, eq-eqb, ne-eqb}
+use Rattle.rules.specs.Bits.{pick, row}
+use Rattle.laws.specs.Holds.{Holds, put, holds-as, holds-put}
+use Rattle.laws.specs.Rows.{Bits}
+use Rattle.turbo.specs.Within.{within, withEnds}
+
+-- f with v at p: there, and elsewhere
+put-here : (f : ℕ → ℕ) (p v k : ℕ) → k ≡ p → put f p v k ≡ v
+put-here f p v k e = ap (λ (b : Bool). pick b v (f k)) (eq-eqb k p e)
+
+put-other : (f : ℕ → ℕ) (p v k : ℕ) → (k ≡ p → ⊥) → put f p v k ≡ f k
+put-other f p v k ne = ap (λ (b : Bool). pick b v (f k)) (ne-eqb k p ne)
+
+module _ (a n : ℕ) (f g : ℕ → ℕ) (k : ℕ) where
+  pub within-before : k < a → within a n f g k ≡ g k
+  unfolding within
+  within-before h = rw (lt-ltb k a h)
+
+  pub within-after : a + n ≤ k → within a n f g k ≡ g k
+  unfolding within
+  within-after h = rw (le-ltb k a (omega arith), le-ltb k (a + n) h)
+
+  pub within-in : a ≤ k → k < a + n → within a n f g k ≡ f (k - a)
+  unfolding within
+  within-in h l = rw (le-ltb k a h, lt-ltb k (a + n) l)
+
+pub within-none : (a : ℕ) (f g : ℕ → ℕ) (k : ℕ) → within a 0 f g k ≡ g k
+within-none a f g k = go (decLt k a)
+  where
+    go : Dec (k < a) → within a 0 f g k ≡ g k
+    go (yes h) = within-before a 0 f g k h
+    go (no h) = within-after a 0 f g k (omega arith)
+
+pub within-bit : (a n : ℕ) (f g : ℕ → ℕ) (k : ℕ) → ((j : ℕ) → f j < 2) → g k < 2 → within a n f g k < 2
+unfolding within
+within-bit a n f g k hf hg = go (ltb k a) (ltb k (a + n))
+  where
+    go : (p q : Bool) → pick p (g k) (pick q (f (k - a)) (g k)) < 2
+    go true q = hg
+    go false true = hf (k - a)
+    go false false = hg
+
+within-same : (a n : ℕ) (f g h : ℕ → ℕ) (k : ℕ) → g k ≡ h k → within a n f g k ≡ within a n f h k
+unfolding within
+within-same a n f g h k e = ap (λ (y : ℕ). pick (ltb k a) y (pick (ltb k (a + n)) (f (k - a)) y)) e
+
+pub ends-same : (a s : ℕ) (g h : ℕ → ℕ) (k : ℕ) → g k ≡ h k → withEnds a s g k ≡ withEnds a s h k
+ends-same a s g h k e = within-same (a + 994) 3 _ _ _ k (within-same (a + 1991) 3 _ g h k e)
+
+-- one element more, at p
+put-next : (a i p v : ℕ) (f g : ℕ → ℕ) → p ≡ a + i → v ≡ f i → (k : ℕ) → put (within a i f g) p v k ≡ within a (i + 1) f g k
+put-next a i p v f g here e k = go (ℕ-discrete k p) (decLt k a) (decLt k p)
+  where
+    go : Dec (k ≡ p) → Dec (k < a) → Dec (k < p) → put (within a i f g) p v k ≡ within a (i + 1) f g k
+    go (yes q) b c =
+        let back : i ≡ k - a = omega arith in
+        put-here (within a i f g) p v k q ∙ e ∙ ap f back ∙ sym (within-in a (i + 1) f g k (omega arith) (omega arith))
+    go (no q) (yes b) c = put-other (within a i f g) p v k q ∙ within-before a i f g k b ∙ sym (within-before a (i + 1) f g k b)
+    go (no q) (no b) (yes c) =
+        put-other (within a i f g) p v k q ∙ within-in a i f g k (omega arith) (omega arith)
+        ∙ sym (within-in a (i + 1) f g k (omega arith) (omega arith))
+    go (no q) (no b) (no c) =
+        put-other (within a i f g) p v k q ∙ within-after a i f g k (omega arith) ∙ sym (within-after a (i + 1) f g k (omega arith))
+
+-- an element past the part
+put-past : (a n p v : ℕ) (f g : ℕ → ℕ) → a + n ≤ p → (k : ℕ) → put (within a n f g) p v k ≡ within a n f (put g p v) k
+put-past a n p v f g past k = go (ℕ-discrete k p)
+  where
+    go : Dec (k ≡ p) → put (within a n f g) p v k ≡ within a n f (put g p v) k
+    go (yes q) = put-here (within a n f g) p v k q ∙ sym (within-after a n f (put g p v) k (omega arith) ∙ put-here g p v k q)
+    go (no q) = put-other (within a n f g) p v k q ∙ within-same a n f g (put g p v) k (sym (put-other g p v k q))
+
+-- a turn that stores f i at a + i
+pub stored : (a i p v : ℕ) (f g : ℕ → ℕ) {n : ℕ} {l : List ℕ}
+    → p ≡ a + i
+    → p < n
+    → v ≡ f i
+    → Holds 0 n (within a i f g) l
+    → Holds 0 n (within a (i + 1) f g) (set l p v)
+stored a i p v f g here lt e h = holds-as 0 (within a (i + 1) f g) (λ k k<n. put-next a i p v f g here e k) (holds-put 0 p v lt h)
+
+-- the same from the front
+pub stored-next : (i v : ℕ) (f g : ℕ → ℕ) {n : ℕ} {l : List ℕ}
+    → i < n
+    → v ≡ f i
+    → Holds 0 n (within 0 i f g) l
+    → Holds 0 n (within 0 (i + 1) f g) (set l i v)
+stored-next i v f g = stored 0 i i v f g (sym (zero-add i))
+
+-- a turn that stores f i at a + i, and h i further on, at b + i
+pub both-stored : (a b i p q u v : ℕ) (f h g : ℕ → ℕ) {n : ℕ} {l : List ℕ}
+    → p ≡ a + i
+    → q ≡ b + i
+    → p < b
+    → q < n
+    → u ≡ f i
+    → v ≡ h i
+    → Holds 0 n (within a i f (within b i h g)) l
+    → Holds 0 n (within a (i + 1) f (within b (i + 1) h g)) (set (set l p u) q v)
+both-stored a b i p q u v f h g at-p at-q pq lt e e' held =
+    holds-as 0 (within a (i + 1) f (within b (i + 1) h g))
+    (λ k k<n.
+    put-past a (i + 1) q v f (within b i h g) (omega arith) k
+    ∙ within-same a (i + 1) f (put (within b i h g) q v) (within b (i + 1) h g) k (put-next b i q v h g at-q e' k))
+    (holds-put 0 q v lt (stored a i p u f (within b i h g) at-p (omega arith) e held))
+
+-- before the first turn, and after the last
+pub held : (g : ℕ → ℕ) (l : List ℕ) {n : ℕ} → length l ≡ n → ((k : ℕ) → k < n → g k ≡ row l k) → Holds 0 n g l
+held g l e same = record { long = e; each = λ k lt. sym (same k lt) }
+
+pub zeros : (n : ℕ) → Holds {A = ℕ} 0 n (λ k. 0) (replicate n 0)
+zeros n = record { long = length-replicate n 0; each = λ k lt. getD-replicate n k 0 0 lt }
+
+pub unfilled : (n : ℕ) (f g : ℕ → ℕ) {l : List ℕ} → Holds 0 n g l → Holds 0 n (within 0 0 f g) l
+unfilled n f g = holds-as 0 (within 0 0 f g) (λ k lt. sym (within-none 0 f g k))
+
+pub filled : (n : ℕ) (f g : ℕ → ℕ) {l : List ℕ} → Holds 0 n (within 0 n f g) l → Holds 0 n f l
+filled n f g = holds-as 0 f (λ k lt. within-in 0 n f g k (omega arith) (omega arith) ∙ ap f (sub-zero k))
+
+-- a list that holds bits has bits alone
+pub bits-held : {n : ℕ} {f : ℕ → ℕ} {l : List ℕ} → ((k : ℕ) → k < n → f k < 2) → Holds 0 n f l → Bits l
+bits-held {n} {f} {l} bit h i = go (decLt i n)
+  where
+    go : Dec (i < n) → row l i < 2
+    go (yes lt) = rw (h .each i lt) (bit i lt)
+    go (no ge) = rw (List·getD-eq-default l 0 {n = i} (omega (arith, h .long))) (omega arith)

@@ -1,0 +1,88 @@
+-- `code_with` answers by the coding rule: what is sent are the places of the streams of the packet's 994 bits.
+use mathlib.Core.Path.{refl, sym, _∙_}
+use Prim.Native.Nat.{ℕ}
+use native.Mathlib.Omega.{arith}
+use borrow.Author.Needs.{needs}
+use denote.Ref.{now}
+use lib.Dec.{T, ltb→lt, lt→ltb}
+use Rattle.rules.specs.Bits.{row}
+use Rattle.rules.specs.Packet.{packetBit}
+use Rattle.rules.specs.Slots.{isMode, coded}
+use Rattle.laws.specs.Holds.{Holds, holds-as}
+use Rattle.packet.proofs.Bits.{packet-bit-lt}
+use Rattle.turbo.proofs.Within.{bits-held}
+use Rattle.turbo.proofs.Modes.{sent-coded, coded-same}
+use Rattle.turbo.proofs.code_with.Statement.{statement}
+use Rattle.turbo.proofs.code_with.Tie as tie
+
+mode-of : (c : tie.Else1) → T (isMode (c .before .before .before .args .mode))
+mode-of c = lt→ltb (c .before .before .before .args .mode) 2 (omega arith)
+
+-- the packet's bits enter
+entered : (c : tie.After-without-tail)
+    → Holds 0 994 (packetBit (row (now (c .before .before .before .before .before .before .before .before .args .«data»)))) (c .without-tail .result)
+entered c = holds-as 0 _ (λ k lt. c .before .bits-of .ensures .each k (omega arith)) (c .without-tail .ensures)
+
+returns : tie.Need-returns
+returns c = (λ t. omega (arith, ltb→lt (c .before .before .before .args .mode) 2 t), refl)
+
+returns-2 : tie.Need-returns-2
+returns-2 c = (mode-of (c .before), λ both. c .if2 .taken (both .0), refl)
+
+packet-bits-requires : tie.Need-packet-bits-requires
+packet-bits-requires c κs = search needs
+
+returns-3 : tie.Need-returns-3
+returns-3 c = (mode-of (c .before .before .before), λ both. c .if3 .taken (both .1 ∙ sym (c .before .packet-bits .ensures .0)), refl)
+
+bits-of-requires : tie.Need-bits-of-requires
+bits-of-requires c κs = search needs
+
+without-tail-requires : tie.Need-without-tail-requires
+without-tail-requires c κs = search needs
+
+streams-of-requires : tie.Need-streams-of-requires
+streams-of-requires c κs = (bits-held (λ k lt. packet-bit-lt _ k) (entered c), c .before .before .before .before .before .before .before .before .pre)
+
+send-requires : tie.Need-send-requires
+send-requires c κs =
+    let else3 = c .before .before .before .before in
+    (mode-of (else3 .before .before .before), else3 .if3 .left ∙ else3 .before .packet-bits .ensures .0)
+
+same-length : tie.Need-same-length
+same-length c = search needs
+
+returns-4 : tie.Need-returns-4
+returns-4 c =
+    let tail = c .before .before .before .before .before in
+    let else3 = tail .before .before in
+    let else1 = else3 .before .before .before in
+    let start = else1 .before .before .before in
+    let m : ℕ = start .args .mode in
+    let d : ℕ → ℕ = packetBit (row (now (start .args .«data»))) in
+    let streams = c .before .before .before .before .streams-of in
+    let x : ℕ → ℕ = row (tail .without-tail .result) in (
+      mode-of else1,
+      else3 .before .before .if2 .left,
+      else3 .if3 .left ∙ else3 .before .packet-bits .ensures .0,
+      holds-as 0 (coded m d)
+          (λ i lt.
+          sent-coded m (mode-of else1) x (row (streams .result)) (streams .ensures .each) i lt
+          ∙ coded-same m (mode-of else1) x d (entered tail .each) i lt)
+          (c .before .before .send .ensures),
+    )
+
+pub code-with-spec : {M : Type 1} → statement M
+code-with-spec =
+    tie.close
+    (tie.spec
+    returns
+    returns-2
+    packet-bits-requires
+    returns-3
+    bits-of-requires
+    without-tail-requires
+    streams-of-requires
+    send-requires
+    same-length
+    returns-4)

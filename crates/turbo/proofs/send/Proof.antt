@@ -1,0 +1,70 @@
+-- `send` takes each bit from its place: before turn i, i of them.
+use mathlib.Core.Path.{_≡_, refl, sym, ap, _∙_}
+use Prim.Native.Nat.{_-_, _≤_}
+use native.Mathlib.Omega.{arith}
+use Rattle.rules.specs.Bits.{row}
+use Rattle.laws.specs.Holds.{Holds}
+use Rattle.turbo.specs.Within.{within}
+use Rattle.rules.specs.Slots.{packetBits}
+use Rattle.turbo.specs.Coded.{sentFrom}
+use Rattle.turbo.proofs.Within.{stored-next, unfilled, filled, held}
+use Rattle.turbo.proofs.send.Statement.{statement}
+use Rattle.turbo.proofs.send.Tie as tie
+
+abbrev Inv-loop : tie.InvT-loop
+Inv-loop mode out₀ all i₀ out i = (i ≤ packetBits mode) × Holds 0 (packetBits mode) (within 0 i (sentFrom mode (row all)) (row out₀)) out
+
+abbrev μ-loop : tie.MeasureT-loop
+μ-loop mode out₀ all i₀ out i = packetBits mode - i
+
+loop-holds : tie.Need-loop-holds Inv-loop μ-loop
+loop-holds c = (omega arith, unfilled _ _ _ (held _ _ (c .before .pre .1) (λ k lt. refl)))
+
+sent-place-requires : tie.Need-sent-place-requires Inv-loop μ-loop
+sent-place-requires c κs = (c .before .before .before .pre .0, omega (arith, c .before .loop .inv .1 .long))
+
+array-read-out : tie.Need-array-read-out Inv-loop μ-loop
+array-read-out c = omega arith
+
+slice-write-out : tie.Need-slice-write-out Inv-loop μ-loop
+slice-write-out c = omega (arith, c .before .before .loop .inv .1 .long)
+
+add-i : tie.Need-add-i Inv-loop μ-loop
+add-i c = omega arith
+
+loop-less : tie.Need-loop-less Inv-loop μ-loop
+loop-less c = omega arith
+
+loop-again : tie.Need-loop-again Inv-loop μ-loop
+loop-again c =
+    let l = c .before .before .loop in
+    let start = c .before .before .before .before in (
+      omega arith,
+      stored-next (l .i) _ (sentFrom (start .args .mode) (row (start .args .t2))) _ (omega arith)
+          (ap (row (start .args .t2)) (c .sent-place .ensures .0)) (l .inv .1),
+    )
+
+same-length : tie.Need-same-length Inv-loop μ-loop
+same-length c = c .before .loop .inv .1 .long ∙ sym (c .before .before .before .pre .1)
+
+returns : tie.Need-returns Inv-loop μ-loop
+returns c =
+    let l = c .before .loop in
+    let all : l .i ≡ packetBits (c .before .before .before .args .mode) = omega (arith, l .inv .1 .long) in
+    filled _ _ _ (rw all at (l .inv .1))
+
+pub send-spec : {M : Type 1} → statement M
+send-spec =
+    tie.close
+    (tie.spec
+    Inv-loop
+    μ-loop
+    loop-holds
+    sent-place-requires
+    array-read-out
+    slice-write-out
+    add-i
+    loop-less
+    loop-again
+    same-length
+    returns)
