@@ -1,40 +1,122 @@
 // The profile, read and written by the same rules.
 ghost use mathlib.Core.Path.{_≡_};
-ghost use Rattle.rules.specs.Profile.{inRange, reading, writing};
+ghost use Prim.Native.Nat.{_≤_};
+ghost use lib.ListN.{length};
+ghost use lib.Seq.{sets};
+ghost use Rattle.rules.specs.Profile.{blank as blankOf, inRange, reading, refused as refusedOf, writing, written};
+
+mod fields;
+mod header;
+mod numbers;
+mod ranges;
+
+use fields::FIELDS;
 use rules::Profile;
 use rules::Reading;
 use rules::Writing;
+
+// The largest size of a profile.
+const LARGEST: usize = 245;
 
 // Whether every number of the value is in its range.
 pub fn in_range(p: Profile) -> bool
     ensures { λ r. ⌜ r ≡ inRange p ⌝ }
 {
-    false
+    let mut i = 0;
+    while i < FIELDS {
+        if !fields::good(i, p) {
+            return false;
+        }
+        i += 1;
+    }
+    true
 }
 
-// Reads any bytes.
+// All numbers zero, D +0.0.
+fn blank() -> Profile
+    ensures { λ r. ⌜ r ≡ blankOf ⌝ }
+{
+    Profile {
+        masks: [0u32; 8],
+        level: 0.0,
+        mode: 0,
+        k: 0,
+        seeds: [0u32; 48],
+    }
+}
+
+// A refusal: its number, and the blank profile.
+fn refused(number: u32) -> Reading
+    ensures { λ r. ⌜ r ≡ refusedOf number ⌝ }
+{
+    let profile = blank();
+    Reading { number, profile }
+}
+
+// Reads any bytes, field by field.
 pub fn read(bytes: &[u8]) -> Reading
     ensures { λ r. ⌜ r ≡ reading (now (bytes .entry)) ⌝ }
 {
-    Reading {
-        number: 5,
-        profile: Profile {
-            masks: [0u32; 8],
-            level: 0.0,
-            mode: 0,
-            k: 0,
-            seeds: [0u32; 48],
-        },
+    let mut p = blank();
+    let mut at = 0;
+    let mut i = 0;
+    while i < FIELDS {
+        let due = fields::due(i, p);
+        let n = header::judge(bytes, at, (i + 1) as u8, due);
+        if n != 0 {
+            return refused(n);
+        }
+        let next = at + 3 + due;
+        p = fields::with_value(i, p, &bytes[at + 3..next]);
+        if !fields::good(i, p) {
+            return refused(4);
+        }
+        at = next;
+        i += 1;
     }
+    let n = header::ending(bytes, at);
+    if n != 0 {
+        return refused(n);
+    }
+    Reading {
+        number: 0,
+        profile: p,
+    }
+}
+
+// All fields, from the front on; answers their size.
+fn put_all(s: &mut [u8], p: Profile) -> usize
+    requires { ⌜ length (written p) ≤ length (now s) ⌝ }
+    ensures { λ r. ⌜ (r ≡ length (written p)) × (now (s .exit) ≡ sets (now (s .entry)) 0 (written p)) ⌝ }
+{
+    let mut at = 0;
+    let mut i = 0;
+    while i < FIELDS {
+        let due = fields::due(i, p);
+        header::put(s, at, (i + 1) as u8, due);
+        fields::put_value(i, p, s, at + 3);
+        at = at + 3 + due;
+        i += 1;
+    }
+    at
 }
 
 // Writes a value, or refuses it.
 pub fn write(p: Profile) -> Writing
     ensures { λ r. ⌜ r ≡ writing p ⌝ }
 {
+    let mut bytes = [0u8; LARGEST];
+    if !in_range(p) {
+        return Writing {
+            number: 4,
+            bytes,
+            count: 0,
+        };
+    }
+    let count = put_all(&mut bytes, p);
     Writing {
-        number: 4,
-        bytes: [0u8; 245],
-        count: 0,
+        number: 0,
+        bytes,
+        count,
     }
 }

@@ -1,0 +1,212 @@
+-- A field's header, its value and the bytes after the last field, each judged at a position, are the walk of document 01.
+use mathlib.Core.Path.{_≡_, refl, sym, _∙_, ap}
+use mathlib.Core.Bool.{Bool, true, false, not, _&&_}
+use mathlib.Core.List.{List, [], _∷_}
+use Prim.Native.Nat.{ℕ, _+_, _*_, _-_, _<_, _≤_}
+use native.Mathlib.Nat.{add-zero, add-assoc}
+use native.Mathlib.Numerals.{add-one}
+use native.Mathlib.Omega.{arith}
+use borrow.Author.Tests.{eq-eqb, ne-eqb, lt-ltb, le-ltb, ltb-false}
+use lib.Dec.{eqb, ltb, eqb→eq}
+use lib.ListN.{length, take, drop, length-take, length-drop, drop-of-length-le}
+use lib.Seq.{drop-cons, drop-drop, getD-drop}
+use Rattle.laws.specs.Every.{every-at}
+use Rattle.rules.specs.Bits.{pick, row}
+use Rattle.rules.specs.Profile.{Field, fields, allGood, inRange, walk, reading, refused}
+use Rattle.rules.specs.declared.Profile.{Profile}
+use Rattle.rules.specs.declared.Reading.{Reading}
+use Rattle.profile.specs.Fields.{none, many, field, heading, ending}
+
+-- ---- what a header says, test by test
+
+module _ (s : List ℕ) (at : ℕ) where
+  row-at : (k : ℕ) → row (drop at s) k ≡ row s (at + k)
+  row-at k = getD-drop at s k 0
+
+  pub ending-none : length s ≤ at → 0 ≡ ending (drop at s)
+  ending-none h = rw (drop-of-length-le s h)
+
+  module _ (lt : at < length s) where
+    left : eqb (length (drop at s)) 0 ≡ false
+    left = rw length-drop (ne-eqb (length s - at) 0 (omega arith))
+
+    pub ending-cut : length s - at < 3 → 1 ≡ ending (drop at s)
+    ending-cut h = rw (left, length-drop at s, lt-ltb (length s - at) 3 h)
+
+    pub ending-more : 3 ≤ length s - at → 2 ≡ ending (drop at s)
+    ending-more h = rw (left, length-drop at s, le-ltb (length s - at) 3 h)
+
+  module _ (tag due : ℕ) where
+    pub heading-none : length s ≤ at → 5 ≡ heading tag due (drop at s)
+    heading-none h = rw (drop-of-length-le s h)
+
+    module _ (lt : at < length s) where
+      pub heading-cut : length s - at < 3 → 1 ≡ heading tag due (drop at s)
+      heading-cut h = rw (left lt, length-drop at s, lt-ltb (length s - at) 3 h)
+
+      module _ (whole : 3 ≤ length s - at) where
+        past : heading tag due (drop at s)
+            ≡ pick (not (eqb (row s at) tag)) 2
+            (pick (not (eqb (row s (at + 1) * 256 + row s (at + 2)) due)) 3 (pick (ltb (length s - at) (3 + due)) 1 0))
+        past = rw (left lt, length-drop at s, le-ltb (length s - at) 3 whole, row-at 0, row-at 1, row-at 2, add-zero at)
+
+        pub heading-tag : (row s at ≡ tag → ⊥) → 2 ≡ heading tag due (drop at s)
+        heading-tag ne = sym (past ∙ rw (ne-eqb (row s at) tag ne))
+
+        module _ (t : row s at ≡ tag) where
+          pub heading-length : (row s (at + 1) * 256 + row s (at + 2) ≡ due → ⊥) → 3 ≡ heading tag due (drop at s)
+          heading-length ne = sym (past ∙ rw (eq-eqb (row s at) tag t, ne-eqb (row s (at + 1) * 256 + row s (at + 2)) due ne))
+
+          module _ (d : row s (at + 1) * 256 + row s (at + 2) ≡ due) where
+            last : heading tag due (drop at s) ≡ pick (ltb (length s - at) (3 + due)) 1 0
+            last = past ∙ rw (eq-eqb (row s at) tag t, eq-eqb (row s (at + 1) * 256 + row s (at + 2)) due d)
+
+            pub heading-short : length s - at - 3 < due → 1 ≡ heading tag due (drop at s)
+            heading-short h = sym (last ∙ rw (lt-ltb (length s - at) (3 + due) (omega arith)))
+
+            pub heading-whole : due ≤ length s - at - 3 → 0 ≡ heading tag due (drop at s)
+            heading-whole h = sym (last ∙ rw (le-ltb (length s - at) (3 + due) (omega arith)))
+
+-- the five tests of a header, as the number that they give
+abbrev said : Bool → Bool → Bool → Bool → Bool → ℕ
+said none cut tag long short = pick none 5 (pick cut 1 (pick tag 2 (pick long 3 (pick short 1 0))))
+
+-- a field that is judged whole has room for its value
+pub heading-room : (tag due : ℕ) (s : List ℕ) → heading tag due s ≡ 0 → 3 + due ≤ length s
+heading-room tag due s e =
+    ltb-false (length s) (3 + due)
+    (go (eqb (length s) 0) (ltb (length s) 3) (not (eqb (row s 0) tag)) (not (eqb (row s 1 * 256 + row s 2) due)) (ltb (length s) (3 + due)) e)
+  where
+    go : (none cut tag long short : Bool) → said none cut tag long short ≡ 0 → short ≡ false
+    go true cut tag long short e = absurd (omega arith)
+    go false true tag long short e = absurd (omega arith)
+    go false false true long short e = absurd (omega arith)
+    go false false false true short e = absurd (omega arith)
+    go false false false false true e = absurd (omega arith)
+    go false false false false false e = refl
+
+-- ---- the table, field by field
+
+pub fields-at : (i : ℕ) → i < many → drop i fields ≡ field i ∷ drop (i + 1) fields
+unfolding field
+fields-at i h = rw (add-one, drop-cons fields i none)
+
+pub tag-at : (i : ℕ) → i < many → field i .tag ≡ i + 1
+unfolding field
+tag-at i h = eqb→eq (field i .tag) (i + 1) (every-at many (λ k. eqb (field k .tag) (k + 1)) tt i h)
+
+-- what a field's header and value decide; q is the profile with the value
+pub walk-step : (f : Field) (fs : List Field) (p q : Profile) (s : List ℕ) → q ≡ f .with p (take (f .due p) (drop 3 s))
+    → let h = heading (f .tag) (f .due p) s in
+    walk (f ∷ fs) p s ≡ pick (eqb h 0) (pick (f .good q) (walk fs q (drop (3 + f .due p) s)) (refused 4)) (refused h)
+unfolding walk
+walk-step f fs p q s w =
+    rw (← w)
+    (go (eqb (length s) 0) (ltb (length s) 3) (not (eqb (row s 0) (f .tag))) (not (eqb (row s 1 * 256 + row s 2) (f .due p)))
+    (ltb (length s) (3 + f .due p)) (f .good q) (walk fs q (drop (3 + f .due p) s)))
+  where
+    go : (none cut tag long short good : Bool) (next : Reading)
+        → pick none (refused 5)
+        (pick cut (refused 1) (pick tag (refused 2) (pick long (refused 3) (pick short (refused 1) (pick (not good) (refused 4) next)))))
+        ≡ pick (eqb (said none cut tag long short) 0) (pick good next (refused 4)) (refused (said none cut tag long short))
+    go true cut tag long short good next = refl
+    go false true tag long short good next = refl
+    go false false true long short good next = refl
+    go false false false true short good next = refl
+    go false false false false true good next = refl
+    go false false false false false true next = refl
+    go false false false false false false next = refl
+
+-- what stands after the last field
+pub walk-end : (p : Profile) (s : List ℕ) → walk [] p s ≡ pick (eqb (ending s) 0) (record { number = 0; profile = p }) (refused (ending s))
+unfolding walk
+walk-end p s = go (eqb (length s) 0) (ltb (length s) 3)
+  where
+    go : (none cut : Bool) → pick none (record { number = 0; profile = p }) (refused (pick cut 1 2))
+        ≡ pick (eqb (pick none 0 (pick cut 1 2)) 0) (record { number = 0; profile = p }) (refused (pick none 0 (pick cut 1 2)))
+    go true cut = refl
+    go false true = refl
+    go false false = refl
+
+-- ---- reading, turn by turn: from field i on, the walk over what is left answers
+
+pub record Walking (s : List ℕ) (p : Profile) (at i : ℕ) : Type 0 where
+  pub within : i ≤ many
+  pub rest : reading s ≡ walk (drop i fields) p (drop at s)
+
+-- in a turn: the length that is due, and what the header says
+pub record Judged (s : List ℕ) (p : Profile) (at i due n : ℕ) : Type 0 where
+  pub walking : Walking s p at i
+  pub more : i < many
+  pub length-due : due ≡ field i .due p
+  pub says : n ≡ heading (i + 1) due (drop at s)
+
+module _ {s : List ℕ} {p : Profile} {at i due n : ℕ} (h : Judged s p at i due n) where
+  -- the field's value
+  abbrev value : List ℕ
+  value = take (at + 3 + due - (at + 3)) (drop (at + 3) s)
+
+  value-is : value ≡ take (field i .due p) (drop 3 (drop at s))
+  value-is = let l : at + 3 + due - (at + 3) ≡ field i .due p = omega arith in rw (l, drop-drop 3 at s)
+
+  turn : (q : Profile) → q ≡ field i .with p value
+      → reading s ≡ pick (eqb n 0) (pick (field i .good q) (walk (drop (i + 1) fields) q (drop (at + 3 + due) s)) (refused 4)) (refused n)
+  turn q w =
+      h .walking .rest ∙ ap (λ (fs : List Field). walk fs p (drop at s)) (fields-at i (h .more))
+      ∙ walk-step (field i) (drop (i + 1) fields) p q (drop at s) (w ∙ ap (field i .with p) value-is)
+      ∙ rw (tag-at i (h .more), ← h .length-due, ← h .says, drop-drop (3 + due) at s, ← add-assoc at 3 due)
+
+  pub walk-refused : (n ≡ 0 → ⊥) → refused n ≡ reading s
+  walk-refused ne = sym (turn (field i .with p value) refl ∙ rw (ne-eqb n 0 ne))
+
+  module _ (z : n ≡ 0) where
+    pub walk-room : at + 3 + due ≤ length s
+    walk-room = omega (arith, heading-room (i + 1) due (drop at s) (sym (h .says) ∙ z), length-drop at s)
+
+    pub value-due : length value ≡ field i .due p
+    value-due = simp (length-take, length-drop) (omega (arith, walk-room))
+
+    module _ {q : Profile} (w : q ≡ field i .with p value) where
+      judged : reading s ≡ pick (field i .good q) (walk (drop (i + 1) fields) q (drop (at + 3 + due) s)) (refused 4)
+      judged = turn q w ∙ rw (eq-eqb n 0 z)
+
+      pub walk-bad : field i .good q ≡ false → refused 4 ≡ reading s
+      walk-bad g = sym (judged ∙ rw g)
+
+      pub walk-more : field i .good q ≡ true → Walking s q (at + 3 + due) (i + 1)
+      walk-more g = record { within = omega arith; rest = judged ∙ rw g }
+
+-- after the last field
+module _ {s : List ℕ} {p : Profile} {at i : ℕ} (h : Walking s p at i) (le : many ≤ i) {n : ℕ} (e : n ≡ ending (drop at s)) where
+  over : reading s ≡ pick (eqb n 0) (record { number = 0; profile = p }) (refused n)
+  over = h .rest ∙ rw (drop-of-length-le fields le, e) (walk-end p (drop at s))
+
+  pub walk-surplus : (n ≡ 0 → ⊥) → refused n ≡ reading s
+  walk-surplus ne = sym (over ∙ rw (ne-eqb n 0 ne))
+
+  pub walk-done : n ≡ 0 → record { number = 0; profile = p } ≡ reading s
+  walk-done z = sym (over ∙ rw (eq-eqb n 0 z))
+
+-- ---- the range of a value, turn by turn
+
+pub record Ranging (p : Profile) (i : ℕ) : Type 0 where
+  pub within : i ≤ many
+  pub rest : inRange p ≡ allGood (drop i fields) p
+
+pub range-start : (p : Profile) → Ranging p 0
+unfolding inRange
+range-start p = record { within = omega arith; rest = refl }
+
+module _ {p : Profile} {i : ℕ} (h : Ranging p i) where
+  module _ (lt : i < many) where
+    next-good : inRange p ≡ field i .good p && allGood (drop (i + 1) fields) p
+    next-good = h .rest ∙ ap (λ (fs : List Field). allGood fs p) (fields-at i lt)
+
+    pub range-bad : field i .good p ≡ false → false ≡ inRange p
+    range-bad g = sym (next-good ∙ rw g)
+
+    pub range-more : field i .good p ≡ true → Ranging p (i + 1)
+    range-more g = record { within = omega arith; rest = next-good ∙ rw g }
+
+  pub range-done : many ≤ i → true ≡ inRange p
+  range-done le = sym (h .rest ∙ rw (drop-of-length-le fields le))

@@ -1,0 +1,14 @@
+-- The two sizes, by the mode.
+use native.Mathlib.Omega.{arith}
+use borrow.Author.Tests.{eq-eqb, ne-eqb}
+use Rattle.profile.proofs.ranges.slots.Statement.{statement}
+use Rattle.profile.proofs.ranges.slots.Tie as tie
+
+returns : tie.Need-returns
+returns c = (simp (eq-eqb _ _ (c .if1 .taken)), omega arith)
+
+returns-2 : tie.Need-returns-2
+returns-2 c = (simp (ne-eqb _ _ (c .if1 .left)), omega arith)
+
+pub slots-spec : {M : Type 1} → statement M
+slots-spec = tie.close (tie.spec returns returns-2)

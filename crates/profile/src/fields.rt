@@ -1,0 +1,98 @@
+// The table of fields, by number from 0: field i has the tag i + 1. A field more is an arm more in each of the functions.
+ghost use mathlib.Core.Path.{_≡_};
+ghost use Prim.Native.Nat.{_+_, _<_, _≤_};
+ghost use lib.ListN.{length};
+ghost use lib.Seq.{sets};
+ghost use Rattle.profile.specs.Fields.{field, many};
+use super::numbers;
+use super::ranges;
+use rules::Profile;
+
+pub const FIELDS: usize = 5;
+
+// The length due after what was read before the field.
+pub fn due(i: usize, p: Profile) -> usize
+    requires { ⌜ i < many ⌝ }
+    ensures { λ r. ⌜ (r ≡ field i .due p) × (r < 256) ⌝ }
+{
+    match i {
+        0 => 32,
+        1 => 4,
+        2 => 1,
+        3 => 1,
+        _ => 4 * ranges::slots(p.mode),
+    }
+}
+
+// Whether the field's value is in its range.
+pub fn good(i: usize, p: Profile) -> bool
+    requires { ⌜ i < many ⌝ }
+    ensures { λ r. ⌜ r ≡ field i .good p ⌝ }
+{
+    match i {
+        0 => {
+            let masks = p.masks;
+            ranges::masks_good(masks)
+        }
+        1 => ranges::level_good(p.level),
+        2 => ranges::mode_good(p.mode),
+        3 => ranges::k_good(p.k),
+        _ => {
+            let seeds = p.seeds;
+            ranges::seeds_good(p.mode, seeds)
+        }
+    }
+}
+
+// The profile with the value that stands in s.
+pub fn with_value(i: usize, mut p: Profile, s: &[u8]) -> Profile
+    requires { ⌜ i < many ⌝ }
+    requires { ⌜ length (now s) ≡ field i .due p ⌝ }
+    ensures { λ r. ⌜ r ≡ field i .with p (now (s .entry)) ⌝ }
+{
+    match i {
+        0 => {
+            let masks = numbers::masks_of(s);
+            p.masks = masks;
+        }
+        1 => {
+            let level = numbers::level_of(s);
+            p.level = level;
+        }
+        2 => {
+            let mode = numbers::byte_of(s);
+            p.mode = mode;
+        }
+        3 => {
+            let k = numbers::byte_of(s);
+            p.k = k;
+        }
+        _ => {
+            let seeds = numbers::seeds_of(p.mode, s);
+            p.seeds = seeds;
+        }
+    }
+    p
+}
+
+// The field's value, stored from a position on.
+pub fn put_value(i: usize, p: Profile, s: &mut [u8], at: usize)
+    requires { ⌜ i < many ⌝ }
+    requires { ⌜ at + field i .due p ≤ length (now s) ⌝ }
+    ensures { λ _. ⌜ now (s .exit) ≡ sets (now (s .entry)) at (field i .bytes p) ⌝ }
+{
+    match i {
+        0 => {
+            let masks = p.masks;
+            numbers::put_words(s, at, &masks);
+        }
+        1 => numbers::put_word(s, at, parts::bits_of_part(p.level)),
+        2 => s[at] = p.mode,
+        3 => s[at] = p.k,
+        _ => {
+            let n = ranges::slots(p.mode);
+            let seeds = p.seeds;
+            numbers::put_words(s, at, &seeds[..n]);
+        }
+    }
+}
