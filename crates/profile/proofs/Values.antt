@@ -9,6 +9,7 @@ use lib.ListN.{length, set, take, drop, drop-of-length-le}
 use lib.Seq.{drop-cons, drop-drop, take-all, sets}
 use Rattle.rules.specs.Bits.{row}
 use Rattle.rules.specs.Profile.{number, words, wordBytes, allBytes}
+use Rattle.profile.proofs.Words.{words-length}
 use Rattle.profile.proofs.Run.{Run, run-start, run-more, run-done, sets-all}
 
 -- ---- one number
@@ -33,10 +34,6 @@ number-one (x ∷ []) e = omega arith
 number-one (x ∷ y ∷ s) e = absurd (omega arith)
 
 -- ---- a list filled with the numbers in s
-
-words-length : (n : ℕ) (s : List ℕ) → length (words n s) ≡ n
-words-length zero s = refl
-words-length (suc n) s = ap suc (words-length n (drop 4 s))
 
 words-from : (n i : ℕ) (s : List ℕ) → i < n
     → words (n - i) (drop (4 * i) s) ≡ number (take 4 (drop (4 * i) s)) ∷ words (n - (i + 1)) (drop (4 * (i + 1)) s)

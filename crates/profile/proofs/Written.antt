@@ -12,22 +12,13 @@ use Rattle.rules.specs.Profile.{Field, allBytes, fields, fieldBytes, largest, w
 use Rattle.rules.specs.Slots.{slots}
 use Rattle.rules.specs.declared.Profile.{Profile}
 use Rattle.profile.specs.Fields.{field, many}
-use Rattle.profile.specs.Shape.{Shape}
+use Rattle.rules.specs.Profile.{Shape}
+use Rattle.profile.proofs.Words.{bytes-length}
+use Rattle.profile.proofs.Entries.{slots-most}
 use Rattle.profile.proofs.Run.{Run, run-start, run-more, run-done, sets-front}
 use Rattle.profile.proofs.Walk.{fields-at, tag-at}
 
 -- ---- lengths
-
-slots-most : (m : ℕ) → slots m ≤ 48
-slots-most m = go (eqb m 0)
-  where
-    go : (b : Bool) → 16 * pick b 3000 2000 / 1000 ≤ 48
-    go true = omega arith
-    go false = omega arith
-
-bytes-length : (l : List ℕ) → length (allBytes l) ≡ 4 * length l
-bytes-length [] = refl
-bytes-length (x ∷ l) = omega (arith, bytes-length l)
 
 -- a field's value is as long as its header says
 bytes-due : (i : ℕ) (p : Profile) → Shape p → i < many → length (field i .bytes p) ≡ field i .due p

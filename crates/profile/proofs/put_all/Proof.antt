@@ -1,7 +1,7 @@
 -- At the loop's head, what is left to store gives all the bytes.
 use Prim.Native.Nat.{_+_, _-_, _≤_}
 use Rattle.profile.specs.Fields.{many}
-use Rattle.profile.specs.Shape.{Shape}
+use Rattle.rules.specs.Profile.{Shape}
 use Rattle.profile.proofs.Written.{Storing, store-start, store-room, store-more, store-done}
 use native.Mathlib.Omega.{arith}
 use borrow.Author.Needs.{needs}

@@ -3,7 +3,7 @@ use mathlib.Core.Path.{_≡_, refl, sym, _∙_}
 use mathlib.Core.Bool.{false}
 use Rattle.rules.specs.Profile.{inRange}
 use borrow.Author.Tests.{not-true, not-false}
-use Rattle.profile.specs.Shape.{Shape}
+use Rattle.rules.specs.Profile.{Shape}
 use Rattle.profile.proofs.Written.{written-most, writing-of}
 use borrow.Author.Needs.{needs}
 use Rattle.profile.proofs.write.Statement.{statement}

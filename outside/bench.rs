@@ -1,0 +1,124 @@
+//! The benchmark: time per block of the C library and of the plain Rust program, side by side in one run.
+//! `run-bench` compiles and runs it.
+
+#[allow(dead_code)]
+mod library;
+#[allow(dead_code)]
+mod plain;
+
+use plain::{Profile, BLOCK, CELLS, PACKET};
+use std::hint::black_box;
+use std::time::{Duration, Instant};
+
+const SAMPLES: usize = 401;
+/// A sample repeats its call for at least this long: much longer than the clock's steps, much shorter than the turns in which the
+/// machine gives other processes time, so that most samples, and with them the median, see none of those.
+const SAMPLE: Duration = Duration::from_micros(100);
+
+/// One block's input and the memory lent for its result. Each program gets its own.
+struct Bench {
+    profile: Vec<u8>,
+    k: u8,
+    r: usize,
+    data: Vec<u8>,
+    firsts: Vec<f32>,
+    seconds: Vec<f32>,
+    room: Vec<u8>,
+    block: Vec<u8>,
+}
+
+impl Bench {
+    /// Fixed numbers that look random; the grid and the block are as sent.
+    fn new(mode: u8, k: u8) -> Bench {
+        let mut profile = Profile { level: 1.0, mode, k, ..Profile::ZERO };
+        let slots = profile.slots();
+        let number = |i: usize| 1 + (i as u32 + 1).wrapping_mul(2_654_435_761) % ((1 << 20) - 1);
+        (0..8).for_each(|i| profile.masks[i] = number(i));
+        (0..slots).for_each(|t| profile.seeds[t] = number(100 + t));
+        let data: Vec<u8> = (0..PACKET * k as usize).map(|i| number(1000 + i) as u8).collect();
+        let cells = CELLS * profile.symbols();
+        let (mut firsts, mut seconds) = (vec![0.0; cells], vec![0.0; cells]);
+        assert_eq!(plain::send(&profile, &data, &mut firsts, &mut seconds), 0);
+        let (_, bytes, count) = plain::write_profile(&profile);
+        let block = plain::block_of(k, &data).as_flattened().to_vec();
+        assert_eq!(block.len(), BLOCK);
+        Bench { profile: bytes[..count].to_vec(), k, r: profile.r(), room: data.clone(), data, firsts, seconds, block }
+    }
+}
+
+/// What is timed: a name, and the call of either program. Each returns its number, which must be 0.
+type Job = (&'static str, fn(&mut Bench) -> u32, fn(&mut Bench) -> u32);
+
+const JOBS: [Job; 4] = [
+    (
+        "send",
+        |b| library::send(&b.profile, &b.data, &mut b.firsts, &mut b.seconds),
+        |b| plain::send_bytes(&b.profile, &b.data, &mut b.firsts, &mut b.seconds),
+    ),
+    (
+        "receive, none lost",
+        |b| library::receive(&b.profile, 0, &b.firsts, &b.seconds, &mut b.room).number,
+        |b| plain::receive_bytes(&b.profile, 0, &b.firsts, &b.seconds, &mut b.room).number,
+    ),
+    (
+        "receive, r marked",
+        |b| library::receive(&b.profile, marks(b.r), &b.firsts, &b.seconds, &mut b.room).number,
+        |b| plain::receive_bytes(&b.profile, marks(b.r), &b.firsts, &b.seconds, &mut b.room).number,
+    ),
+    ("outer parity", |b| library::parity(b.k, &mut b.block), |b| plain::parity(b.k, &mut b.block)),
+];
+
+/// r packets, all of them data: every second one, as far as that goes.
+fn marks(r: usize) -> u16 {
+    if r == 8 { 0x00FF } else { (0x5555 & ((1u32 << (2 * r)) - 1)) as u16 }
+}
+
+/// How often a call fits into a sample.
+fn repeats(bench: &mut Bench, call: fn(&mut Bench) -> u32) -> u32 {
+    let start = Instant::now();
+    let mut count = 0;
+    while count == 0 || start.elapsed() < SAMPLE {
+        assert_eq!(call(black_box(bench)), 0, "the call must be done");
+        count += 1;
+    }
+    count
+}
+
+/// Microseconds per call over one sample.
+fn sample(bench: &mut Bench, call: fn(&mut Bench) -> u32, repeats: u32) -> f64 {
+    let start = Instant::now();
+    for _ in 0..repeats {
+        black_box(call(black_box(bench)));
+    }
+    start.elapsed().as_secs_f64() * 1e6 / repeats as f64
+}
+
+fn median(mut times: Vec<f64>) -> f64 {
+    times.sort_by(f64::total_cmp);
+    times[times.len() / 2]
+}
+
+/// Times both programs in turn, so that whatever else the machine does falls on both.
+fn time(mode: u8, k: u8, job: &Job) -> (f64, f64) {
+    let (mut for_library, mut for_plain) = (Bench::new(mode, k), Bench::new(mode, k));
+    let (many, own_many) = (repeats(&mut for_library, job.1), repeats(&mut for_plain, job.2));
+    let (mut library, mut plain) = (Vec::new(), Vec::new());
+    for _ in 0..SAMPLES {
+        library.push(sample(&mut for_library, job.1, many));
+        plain.push(sample(&mut for_plain, job.2, own_many));
+    }
+    (median(library), median(plain))
+}
+
+fn main() {
+    println!("Time per block in microseconds, median of {SAMPLES} samples of {} or more, both programs in turn.", SAMPLE.as_micros());
+    println!("Buffers, the same for both: each program has its own, reused from call to call and not cleared in between, so they");
+    println!("hold the previous call's result and are warm in the caches. Every call but outer parity reads the profile's bytes anew.");
+    println!("{:<6}{:<5}{:<20}{:>10}{:>10}{:>8}", "mode", "K", "", "library", "plain", "ratio");
+    for (mode, k) in [0, 1].into_iter().flat_map(|mode| [8, 12, 14].map(|k| (mode, k))) {
+        for job in &JOBS {
+            let (library, plain) = time(mode, k, job);
+            println!("{mode:<6}{k:<5}{:<20}{library:>10.1}{plain:>10.1}{:>8.2}", job.0, library / plain);
+        }
+    }
+}

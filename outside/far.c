@@ -1,0 +1,98 @@
+/* The library's calls, carried to the process that FLO_FAR (a shell command) starts: an emulator with serve.c in it. See far.h. */
+#include "far.h"
+
+int pipe(int[2]);
+int fork(void);
+int dup2(int, int);
+int close(int);
+int execl(const char *, const char *, ...);
+char *getenv(const char *);
+void exit(int) __attribute__((noreturn));
+void _exit(int) __attribute__((noreturn));
+int puts(const char *);
+
+static int to, from;
+
+static void end(const char *why) {
+    puts(why);
+    exit(1);
+}
+
+static void start(void) {
+    int there[2], back[2];
+    const char *command = getenv("FLO_FAR");
+    if (!command || pipe(there) || pipe(back)) end("outside: no FLO_FAR, or no pipes");
+    int child = fork();
+    if (child < 0) end("outside: no process for the library");
+    if (child == 0) {
+        dup2(there[0], 0);
+        dup2(back[1], 1);
+        close(there[1]);
+        close(back[0]);
+        execl("/bin/sh", "sh", "-c", command, (char *)0);
+        _exit(127);
+    }
+    close(there[0]);
+    close(back[1]);
+    to = there[1];
+    from = back[0];
+}
+
+struct list {
+    const void *memory;
+    u64 bytes;
+    u64 back;
+};
+
+static u32 carry(u64 call, const u64 numbers[NUMBERS], const struct list *lists, u64 count) {
+    struct request request = { call, count, { numbers[0], numbers[1], numbers[2] }, { 0 }, { 0 } };
+    u64 number;
+    int ok;
+    if (!to) start();
+    for (u64 i = 0; i < count; i++) {
+        request.bytes[i] = lists[i].bytes;
+        request.back[i] = lists[i].back;
+    }
+    ok = whole_write(to, &request, sizeof request);
+    for (u64 i = 0; i < count; i++) ok = ok && whole_write(to, lists[i].memory, lists[i].bytes);
+    ok = ok && whole_read(from, &number, sizeof number);
+    for (u64 i = 0; i < count; i++)
+        if (lists[i].back) ok = ok && whole_read(from, (void *)lists[i].memory, lists[i].bytes);
+    if (!ok) end("outside: the library's process ended in the middle of a call");
+    if (number == WROTE_OUTSIDE) end("outside: the library writes outside the memory that is lent to it");
+    return (u32)number;
+}
+
+u32 flo_send(const u8 *profile, u64 p, const u8 *data, u64 d, float *firsts, u64 f, float *seconds, u64 s) {
+    const struct list lists[] = { { profile, p, 0 }, { data, d, 0 }, { firsts, 4 * f, 1 }, { seconds, 4 * s, 1 } };
+    return carry(SEND, (u64[]){ 0, 0, 0 }, lists, 4);
+}
+
+u32 flo_send_symbol(const u8 *profile, u64 p, const u8 *data, u64 d, u64 symbol, float *firsts, u64 f, float *seconds, u64 s) {
+    const struct list lists[] = { { profile, p, 0 }, { data, d, 0 }, { firsts, 4 * f, 1 }, { seconds, 4 * s, 1 } };
+    return carry(SEND_SYMBOL, (u64[]){ symbol, 0, 0 }, lists, 4);
+}
+
+u32 flo_receive(const u8 *profile, u64 p, u16 marks, const float *firsts, u64 f, const float *seconds, u64 s, u8 *data, u64 d,
+                u16 *lost, u8 *reasons) {
+    const struct list lists[] = {
+        { profile, p, 0 }, { firsts, 4 * f, 0 }, { seconds, 4 * s, 0 }, { data, d, 1 }, { lost, 2, 1 }, { reasons, 16, 1 },
+    };
+    return carry(RECEIVE, (u64[]){ marks, 0, 0 }, lists, 6);
+}
+
+u32 flo_read_profile(const u8 *profile, u64 p, u32 *masks, float *level, u8 *mode, u8 *k, u32 *seeds) {
+    const struct list lists[] = { { profile, p, 0 }, { masks, 32, 1 }, { level, 4, 1 }, { mode, 1, 1 }, { k, 1, 1 }, { seeds, 192, 1 } };
+    return carry(READ_PROFILE, (u64[]){ 0, 0, 0 }, lists, 6);
+}
+
+u32 flo_write_profile(const u32 *masks, float level, u8 mode, u8 k, const u32 *seeds, u8 *profile, u64 *count) {
+    const struct list lists[] = { { masks, 32, 0 }, { seeds, 192, 0 }, { profile, 245, 1 }, { count, 8, 1 } };
+    union { float value; u32 bits; } both = { level };
+    return carry(WRITE_PROFILE, (u64[]){ both.bits, mode, k }, lists, 4);
+}
+
+u32 flo_parity(u8 k, u8 *block, u64 n) {
+    const struct list lists[] = { { block, n, 1 } };
+    return carry(PARITY, (u64[]){ k, 0, 0 }, lists, 1);
+}

@@ -1,0 +1,235 @@
+//! An independent sender and receiver, written from document 01's text alone and in the ordinary way: log tables, precomputed
+//! addresses, one bit per byte. The outside tests compare the C library with it, and the benchmark times the two side by side.
+//!
+//! Names are document 01's. `r` is 16 - K, `n` the slots of one packet, `p` a packet, `t` a block slot, `j` a column.
+
+#[path = "plain_codes.rs"]
+mod codes;
+#[path = "plain_profile.rs"]
+mod profile;
+
+pub use codes::*;
+pub use profile::*;
+use std::ops::Range;
+
+pub const CELLS: usize = 4096; // cells of a symbol
+pub const PACKET: usize = 122; // data bytes of a packet
+pub const PACKETS: usize = 16;
+pub const BLOCK: usize = PACKET * PACKETS;
+pub const SLOT: usize = 1000; // bits of a slot
+pub const PROFILE: usize = 245; // bytes of the largest profile
+pub const ENTERING: usize = 994; // bits of a packet that enter the turbo code
+
+pub const DONE: u32 = 0;
+pub const ENDS_INSIDE: u32 = 1;
+pub const OTHER_TAG: u32 = 2;
+pub const WRONG_LENGTH: u32 = 3;
+pub const OUT_OF_RANGE: u32 = 4;
+pub const FIELD_DUE: u32 = 5;
+pub const DATA_LENGTH: u32 = 6;
+pub const CELL_LENGTH: u32 = 7;
+pub const NO_SUCH_SYMBOL: u32 = 8;
+pub const TOO_MANY_LOST: u32 = 9;
+pub const NO_CODEWORD: u32 = 10;
+
+pub const ACCEPTED: u8 = 0;
+pub const MARKED: u8 = 11;
+pub const DOUBTFUL: u8 = 12;
+pub const CHECK_WORD: u8 = 13;
+pub const RESERVED: u8 = 14;
+pub const CODED_BITS: u8 = 15;
+
+// ---- slots, scrambling, cells
+
+/// Adds the scrambling sequence to the bits.
+pub fn scramble(seed: u32, mask: u32, bits: &mut [u8]) {
+    let mut state = seed;
+    for bit in bits {
+        *bit ^= (state & mask).count_ones() as u8 & 1;
+        state = (state << 1 & 0xF_FFFF) | ((state >> 19 ^ state >> 16) & 1);
+    }
+}
+
+/// The symbol and the slot number of block slot t.
+pub fn slot_place(t: usize) -> (usize, usize) {
+    (t / 7, 1 + t % 7)
+}
+
+/// The cell of interlace k, place i.
+pub fn interlace(k: usize, i: usize) -> usize {
+    if k == 0 && i >= 250 { 56 + 8 * i } else { 48 + k + 8 * i }
+}
+
+/// Writes packet p's slots into those symbols of the grid that are lent.
+pub fn put_packet(profile: &Profile, p: usize, bits: &[u8; ENTERING], symbols: &Range<usize>, firsts: &mut [f32], seconds: &mut [f32]) {
+    let n = profile.n();
+    let mut coded = [0; 3 * SLOT];
+    encode(bits, n, &mut coded[..n * SLOT]);
+    let points = [profile.level, -profile.level];
+    for (t, slot) in (n * p..n * p + n).zip(coded.chunks_exact_mut(SLOT)) {
+        let (symbol, number) = slot_place(t);
+        if !symbols.contains(&symbol) {
+            continue;
+        }
+        scramble(profile.seeds[t], profile.masks[number], slot);
+        let base = CELLS * (symbol - symbols.start);
+        let (firsts, seconds) = (&mut firsts[base..base + CELLS], &mut seconds[base..base + CELLS]);
+        for (i, pair) in slot.chunks_exact(2).enumerate() {
+            firsts[interlace(number, i)] = points[pair[0] as usize];
+            seconds[interlace(number, i)] = points[pair[1] as usize];
+        }
+    }
+}
+
+/// The block's data packets and their outer parity; `data` has 122K bytes.
+pub fn block_of(k: u8, data: &[u8]) -> Block {
+    let mut block = [[0; PACKET]; PACKETS];
+    let flat = block.as_flattened_mut();
+    flat[..data.len()].copy_from_slice(data);
+    parity(k, flat);
+    block
+}
+
+fn send_range(profile: &Profile, data: &[u8], symbols: Range<usize>, firsts: &mut [f32], seconds: &mut [f32]) {
+    let block = block_of(profile.k, data);
+    firsts.fill(0.0);
+    seconds.fill(0.0);
+    for (p, packet) in block.iter().enumerate() {
+        let (from, to) = (slot_place(p * profile.n()).0, slot_place((p + 1) * profile.n() - 1).0);
+        if from < symbols.end && to >= symbols.start {
+            put_packet(profile, p, &packet_bits(packet, check_word(packet), 0), &symbols, firsts, seconds);
+        }
+    }
+}
+
+/// The refusals that all calls on cells share, in their order; `lengths` are the two lists' and the right one.
+fn refusal(profile: &Profile, data: usize, lengths: (usize, usize, usize)) -> u32 {
+    if !profile.in_range() {
+        OUT_OF_RANGE
+    } else if data != profile.data_length() {
+        DATA_LENGTH
+    } else if lengths.0 != lengths.2 || lengths.1 != lengths.2 {
+        CELL_LENGTH
+    } else {
+        DONE
+    }
+}
+
+pub fn send(profile: &Profile, data: &[u8], firsts: &mut [f32], seconds: &mut [f32]) -> u32 {
+    let right = CELLS * profile.symbols();
+    let number = refusal(profile, data.len(), (firsts.len(), seconds.len(), right));
+    if number == DONE {
+        send_range(profile, data, 0..profile.symbols(), firsts, seconds);
+    }
+    number
+}
+
+pub fn send_symbol(profile: &Profile, data: &[u8], symbol: usize, firsts: &mut [f32], seconds: &mut [f32]) -> u32 {
+    let number = refusal(profile, data.len(), (firsts.len(), seconds.len(), CELLS));
+    if number != DONE {
+        return number;
+    }
+    if symbol >= profile.symbols() {
+        return NO_SUCH_SYMBOL;
+    }
+    send_range(profile, data, symbol..symbol + 1, firsts, seconds);
+    DONE
+}
+
+// ---- the way back
+
+#[derive(Clone, Copy, PartialEq, Debug)]
+pub struct Received {
+    pub number: u32,
+    pub lost: u16,
+    pub reasons: [u8; PACKETS],
+}
+
+/// Decides and unscrambles the bits of block slot t; false when one of them is doubtful.
+fn take_slot(profile: &Profile, t: usize, firsts: &[f32], seconds: &[f32], bits: &mut [u8]) -> bool {
+    let (symbol, number) = slot_place(t);
+    let base = CELLS * symbol;
+    let (firsts, seconds) = (&firsts[base..base + CELLS], &seconds[base..base + CELLS]);
+    let mut certain = true;
+    for (i, pair) in bits.chunks_exact_mut(2).enumerate() {
+        let (a, b) = (firsts[interlace(number, i)], seconds[interlace(number, i)]);
+        certain &= (a > 0.0 || a < 0.0) && (b > 0.0 || b < 0.0);
+        (pair[0], pair[1]) = ((a < 0.0) as u8, (b < 0.0) as u8);
+    }
+    scramble(profile.seeds[t], profile.masks[number], bits);
+    certain
+}
+
+/// Judges packet p, which isn't marked: its reason, and the 122 bytes that were decided.
+fn judge(profile: &Profile, p: usize, firsts: &[f32], seconds: &[f32]) -> (u8, [u8; PACKET]) {
+    let (n, length) = (profile.n(), profile.n() * SLOT);
+    let (mut came, mut own) = ([0; 3 * SLOT], [0; 3 * SLOT]);
+    let mut data = [0; PACKET];
+    for (t, slot) in (n * p..n * p + n).zip(came.chunks_exact_mut(SLOT)) {
+        if !take_slot(profile, t, firsts, seconds, slot) {
+            return (DOUBTFUL, data);
+        }
+    }
+    let mut bits = [0; ENTERING];
+    for (i, bit) in bits.iter_mut().enumerate() {
+        *bit = came[interleaved(length, n * i)];
+    }
+    for (byte, eight) in data.iter_mut().zip(bits.chunks_exact(8)) {
+        *byte = number_of(eight) as u8;
+    }
+    if check_word(&data) != number_of(&bits[976..992]) {
+        return (CHECK_WORD, data);
+    }
+    if bits[992..] != [0, 0] {
+        return (RESERVED, data);
+    }
+    encode(&bits, n, &mut own[..length]);
+    (if came == own { ACCEPTED } else { CODED_BITS }, data)
+}
+
+pub fn receive(profile: &Profile, marks: u16, firsts: &[f32], seconds: &[f32], data: &mut [u8]) -> Received {
+    let mut answer = Received { number: DONE, lost: 0, reasons: [0; PACKETS] };
+    let right = CELLS * profile.symbols();
+    answer.number = refusal(profile, data.len(), (firsts.len(), seconds.len(), right));
+    if answer.number != DONE {
+        return answer;
+    }
+    let mut block = [[0; PACKET]; PACKETS];
+    for p in 0..PACKETS {
+        let (reason, packet) = if marks >> p & 1 == 1 { (MARKED, [0; PACKET]) } else { judge(profile, p, firsts, seconds) };
+        answer.reasons[p] = reason;
+        answer.lost |= ((reason != ACCEPTED) as u16) << p;
+        block[p] = packet;
+    }
+    if answer.lost.count_ones() as usize > profile.r() {
+        answer.number = TOO_MANY_LOST;
+    } else if !restore(profile.k, answer.lost, &mut block) {
+        answer.number = NO_CODEWORD;
+    } else {
+        data.copy_from_slice(&block.as_flattened()[..data.len()]);
+    }
+    answer
+}
+
+// ---- the same calls on a profile's bytes, as the C library takes them: the number of reading comes first
+
+pub fn send_bytes(profile: &[u8], data: &[u8], firsts: &mut [f32], seconds: &mut [f32]) -> u32 {
+    match read_profile(profile) {
+        (DONE, profile) => send(&profile, data, firsts, seconds),
+        (number, _) => number,
+    }
+}
+
+pub fn send_symbol_bytes(profile: &[u8], data: &[u8], symbol: usize, firsts: &mut [f32], seconds: &mut [f32]) -> u32 {
+    match read_profile(profile) {
+        (DONE, profile) => send_symbol(&profile, data, symbol, firsts, seconds),
+        (number, _) => number,
+    }
+}
+
+pub fn receive_bytes(profile: &[u8], marks: u16, firsts: &[f32], seconds: &[f32], data: &mut [u8]) -> Received {
+    match read_profile(profile) {
+        (DONE, profile) => receive(&profile, marks, firsts, seconds, data),
+        (number, _) => Received { number, lost: 0, reasons: [0; PACKETS] },
+    }
+}
