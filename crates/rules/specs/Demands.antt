@@ -16,7 +16,7 @@ use Rattle.rules.specs.Slots.{slotBits, packetBits, symbols, coded}
 use Rattle.rules.specs.Points.{doubtful}
 use Rattle.rules.specs.Profile.{inRange, Shape, reading, writing, written, blank}
 use Rattle.rules.specs.Answers.{isNumber, isReason}
-use Rattle.rules.specs.Block.{packet, scrambler, sentBit, heard, SendRule, SendSymbolRule, ReceiveRule}
+use Rattle.rules.specs.Block.{scrambler, sentBit, heard, Cells, SendRule, SendSymbolRule, ReceiveRule}
 use Rattle.rules.specs.declared.Profile.{Profile}
 use Rattle.rules.specs.declared.Reading.{Reading}
 use Rattle.rules.specs.declared.Writing.{Writing}
@@ -96,6 +96,14 @@ abbrev pub Lost : Profile → ℕ → List ℕ → List Float → List Float →
 Lost P marks d f s p = (marked marks p ≡ 1) ⊎ (Doubtful P f s p ⊎ Wrong P d f s p)
 
 pub record D3 : Type 0 where
+  -- a grid that holds the sent cells is heard as sent
+  pub heard-as-sent : (P : Profile) (d : List ℕ) (f s : List Float)
+      → T (inRange P)
+      → Cells P d 0 (symbols (P .mode)) f s
+      → (p i : ℕ)
+      → p < 16
+      → i < packetBits (P .mode)
+      → heardInPlace P f s p i ≡ sentInPlace P d p i
   pub sent-and-received : (P : Profile) (d : List ℕ) (marks : ℕ) (f s : List Float) (before after : List ℕ) (a : Receipt)
       → T (inRange P)
       → length d ≡ 122 * P .k

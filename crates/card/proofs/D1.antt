@@ -1,0 +1,97 @@
+-- Demand 1: whatever arrives, the answer is a number of the table, and a refusal leaves the lent memory holding what it held.
+use mathlib.Core.Path.{_≡_, refl, sym, subst}
+use mathlib.Core.Bool.{Bool, true, false, not, _&&_}
+use mathlib.Core.List.{List}
+use Prim.Native.Nat.{ℕ, _*_, _<_}
+use native.Mathlib.Decide.{ℕ-discrete}
+use lib.Dec.{T, eqb, ltb}
+use lib.Ieee.{Float}
+use lib.ListN.{length, replicate, getD-replicate}
+use Rattle.rules.specs.Bits.{pick, row, everyBelow}
+use Rattle.rules.specs.Outer.{marked}
+use Rattle.rules.specs.Slots.{packetBits, symbols, coded}
+use Rattle.rules.specs.Points.{doubtful}
+use Rattle.rules.specs.Profile.{inRange}
+use Rattle.rules.specs.Answers.{isNumber, isReason}
+use Rattle.rules.specs.Block.{early, ReceiveRule, Judged, Delivered, reason, judged, decided, packetPart}
+use Rattle.rules.specs.Block.{checkRight, reservedRight, decidedData}
+use Rattle.rules.specs.Demands.{D1}
+use Rattle.rules.specs.declared.Profile.{Profile}
+use Rattle.rules.specs.declared.Receipt.{Receipt}
+use Rattle.profile.proofs.RoundTrip.{read-number, write-number}
+
+early-number : (P : Profile) (bytes firsts seconds cells : ℕ) → T (isNumber (early P bytes firsts seconds cells))
+early-number P bytes firsts seconds cells =
+    go (not (inRange P)) (not (eqb bytes (122 * P .k))) (not (eqb firsts cells && eqb seconds cells))
+  where
+    go : (a b c : Bool) → T (isNumber (pick a 4 (pick b 6 (pick c 7 0))))
+    go true b c = tt
+    go false true c = tt
+    go false false true = tt
+    go false false false = tt
+
+symbol-number : (a b : Bool) (n : ℕ) → T (isNumber n) → T (isNumber (pick a (pick b 0 8) n))
+symbol-number true true n h = tt
+symbol-number true false n h = tt
+symbol-number false b n h = h
+
+reason-number : (m mark : ℕ) (v : ℕ → ℕ) → T (isReason (reason m mark v))
+unfolding reason judged
+reason-number m mark v =
+    go (eqb mark 1)
+    (not (everyBelow (packetBits m) (λ i. ltb (v i) doubtful)))
+    (not (checkRight (decidedData m v)))
+    (not (reservedRight (decidedData m v)))
+    (not (everyBelow (packetBits m) (λ i. eqb (v i) (coded m (decidedData m v) i))))
+  where
+    go : (a b c d e : Bool) → T (isReason (pick a 11 (pick b 12 (pick c 13 (pick d 14 (pick e 15 0))))))
+    go true b c d e = tt
+    go false true c d e = tt
+    go false false true d e = tt
+    go false false false true e = tt
+    go false false false false true = tt
+    go false false false false false = tt
+
+delivered-number : {k lost : ℕ} {kept : ℕ → ℕ → ℕ} {before after : List ℕ} {n : ℕ} → Delivered k lost kept before after n
+    → T (isNumber n) × (¬ (n ≡ 0) → after ≡ before)
+delivered-number (Delivered.whole few w agree long is) = (tt, λ ne. absurd (ne refl))
+delivered-number (Delivered.tooMany many e) = (tt, λ ne. e)
+delivered-number (Delivered.noCodeword few j l none e) = (tt, λ ne. e)
+
+-- what the demand asks of an answer to receiving
+abbrev Told : List ℕ → List ℕ → Receipt → Type 0
+Told before after a =
+    T (isNumber (a .number)) × ((p : ℕ) → p < 16 → T (isReason (row (a .reasons) p))) × (¬ (a .number ≡ 0) → after ≡ before)
+
+received : (P : Profile) (marks : ℕ) (f s : List Float) (before after : List ℕ) (a : Receipt)
+    → ReceiveRule P marks f s before after a
+    → Told before after a
+received P marks f s before after a r = go (ℕ-discrete n 0)
+  where
+    n : ℕ
+    n = early P (length before) (length f) (length s) (4096 * symbols (P .mode))
+
+    go : Dec (n ≡ 0) → Told before after a
+    go (yes e) =
+        let j : Judged P marks (decided P f s) before after a = r .judged e in
+        let d = delivered-number (j .delivered) in
+        (d .0, (λ p l. rw (j .reasons-are p l) (reason-number (P .mode) (marked marks p) (packetPart (P .mode) (decided P f s) p))), d .1)
+    go (no ne) =
+        let q = r .refused n refl ne in
+        let silent : (p : ℕ) → p < 16 → T (isReason (row (replicate 16 0) p)) = (λ p l. rw (getD-replicate {A = ℕ} 16 p 0 0 l) tt) in
+        subst (λ (b : Receipt). Told before after b) (sym (q .0))
+        (early-number P (length before) (length f) (length s) (4096 * symbols (P .mode)), silent, λ z. q .1)
+
+pub d1 : D1
+d1 =
+    record {
+      send = λ P d f s f' s' n r.
+          (rw (r .answer) (early-number P (length d) (length f) (length s) (4096 * symbols (P .mode))), r .kept);
+      send-symbol = λ P d symbol f s f' s' n r.
+          let e : ℕ = early P (length d) (length f) (length s) 4096 in
+          let good : T (isNumber e) = early-number P (length d) (length f) (length s) 4096 in
+          (rw (r .answer) (symbol-number (eqb e 0) (ltb symbol (symbols (P .mode))) e good), r .kept);
+      receive = received;
+      read = read-number;
+      write = write-number;
+    }

@@ -1,0 +1,124 @@
+-- One packet in its place: its decided bits are the coded bits of some bytes exactly where its cells decide to these, scrambled.
+use mathlib.Core.Path.{_≡_, refl, sym, ap, ap₂, _∙_}
+use mathlib.Core.Bool.{Bool, true, false, not, _&&_}
+use mathlib.Core.List.{List}
+use mathlib.Core.Logic.{_↔_}
+use Prim.Native.Nat.{ℕ, _+_, _*_, _/_, _%_, _<_}
+use native.Mathlib.Nat.{add-zero, div-add-mod, div-eq-of-lt, mod-eq-of-lt, mul-add-div, mul-add-mod-self-left}
+use native.Mathlib.Decide.{ℕ-discrete}
+use native.Mathlib.Omega.{arith}
+use lib.Dec.{T, eqb}
+use lib.Ieee.{Float}
+use lib.Ieee.Fits.{and-l, and-r, eq→eqb}
+use lib.ListN.{length}
+use borrow.Author.Tests.{eq-eqb, ne-eqb}
+use Rattle.rules.specs.Bits.{pick}
+use Rattle.rules.specs.Packet.{packetBit}
+use Rattle.rules.specs.Outer.{isK, marked}
+use Rattle.rules.specs.Slots.{isMode, slotBits, packetBits, coded, symbols}
+use Rattle.rules.specs.Profile.{inRange, isLevel, all, in20}
+use Rattle.rules.specs.Block.{packet, scrambler, sentBit, heard, unscrambled, decided, packetPart, verdict, reason, ReceiveRule, Judged}
+use Rattle.rules.specs.Demands.{bitInPlace, heardInPlace, sentInPlace, SomePacket}
+use Rattle.rules.specs.declared.Profile.{Profile}
+use Rattle.rules.specs.declared.Receipt.{Receipt}
+use Rattle.packet.proofs.Bits.{packet-bit-lt}
+use Rattle.turbo.proofs.Modes.{coded-bit}
+use Rattle.turbo.proofs.Accepted.{accepted-coded, coded-accepted}
+use Rattle.slots.proofs.Twice.{scrambling-lt, unscrambled-bit, unscrambled-twice}
+use Rattle.cells.proofs.Deciding.{decide-lt}
+
+-- ---- what a profile in its range says
+
+pub mode-of : (P : Profile) → T (inRange P) → T (isMode (P .mode))
+unfolding inRange
+mode-of P t = and-l (isMode (P .mode)) _ (and-r (isLevel (P .level)) _ (and-r (all in20 (P .masks)) _ t))
+
+pub k-of : (P : Profile) → T (inRange P) → T (isK (P .k))
+unfolding inRange
+k-of P t = and-l (isK (P .k)) _ (and-r (isMode (P .mode)) _ (and-r (isLevel (P .level)) _ (and-r (all in20 (P .masks)) _ t)))
+
+-- with it, and rooms of the right lengths, receiving judges
+pub judges : {P : Profile} {marks : ℕ} {f s : List Float} {before after : List ℕ} {a : Receipt}
+    → ReceiveRule P marks f s before after a
+    → T (inRange P)
+    → length before ≡ 122 * P .k
+    → length f ≡ 4096 * symbols (P .mode)
+    → length s ≡ 4096 * symbols (P .mode)
+    → Judged P marks (decided P f s) before after a
+judges {P} {f = f} {s = s} {before = before} r t b x y =
+    r .judged
+    (go (inRange P) (eqb (length before) (122 * P .k)) (eqb (length f) cells) (eqb (length s) cells) t (eq→eqb b) (eq→eqb x) (eq→eqb y))
+  where
+    cells : ℕ
+    cells = 4096 * symbols (P .mode)
+
+    go : (a b c d : Bool) → T a → T b → T c → T d → pick {A = ℕ} (not a) 4 (pick (not b) 6 (pick (not (c && d)) 7 0)) ≡ 0
+    go true true true true p q r s = refl
+    go false b c d p q r s = absurd p
+    go true false c d p q r s = absurd q
+    go true true false d p q r s = absurd r
+    go true true true false p q r s = absurd s
+
+-- ---- scrambled and back
+
+heard-lt : (f s : List Float) (t i : ℕ) → heard f s t i < 3
+unfolding heard
+heard-lt f s t i = decide-lt _
+
+turned : (h s b : ℕ) → h < 3 → s < 2 → b < 2 → unscrambled h s ≡ b → h ≡ (b + s) % 2
+turned h s b hh hs hb e = go (ℕ-discrete h 2)
+  where
+    go : Dec (h ≡ 2) → h ≡ (b + s) % 2
+    go (yes q) = absurd (omega (arith, sym (ap (λ (t : Bool). pick t 2 ((h + s) % 2)) (eq-eqb h 2 q)) ∙ e))
+    go (no n) = omega (arith, unscrambled-bit h s (omega arith))
+
+-- the decided bits of packet p
+abbrev pub part : Profile → List Float → List Float → ℕ → ℕ → ℕ
+part P f s p = packetPart (P .mode) (decided P f s) p
+
+-- and its reason
+abbrev pub reasonIn : Profile → ℕ → List Float → List Float → ℕ → ℕ
+reasonIn P marks f s p = reason (P .mode) (marked marks p) (part P f s p)
+
+-- an unmarked packet's is the verdict on its bits, and a marked one is not accepted
+module _ (P : Profile) (marks : ℕ) (f s : List Float) (p : ℕ) where
+  pub reason-verdict : ¬ (marked marks p ≡ 1) → reasonIn P marks f s p ≡ verdict (P .mode) (part P f s p)
+  unfolding reason
+  reason-verdict ne = rw (ne-eqb (marked marks p) 1 ne)
+
+  pub reason-unmarked : reasonIn P marks f s p ≡ 0 → ¬ (marked marks p ≡ 1)
+  unfolding reason
+  reason-unmarked z e = omega (arith, sym (ap (λ (b : Bool). pick b 11 (verdict (P .mode) (part P f s p))) (eq-eqb (marked marks p) 1 e)) ∙ z)
+
+module _ (P : Profile) (mode : T (isMode (P .mode))) (f s : List Float) (p : ℕ) where
+  pub part-place : (e : ℕ → ℕ) (i : ℕ) → i < packetBits (P .mode)
+      → (part P f s p i ≡ coded (P .mode) (packetBit e) i) ↔ (heardInPlace P f s p i ≡ bitInPlace P e p i)
+  unfolding decided
+  part-place e i l =
+      let t : ℕ = (packetBits (P .mode) * p + i) / slotBits (P .mode) in
+      let g : ℕ = (packetBits (P .mode) * p + i) % slotBits (P .mode) in
+      let bit : coded (P .mode) (packetBit e) i < 2 = coded-bit (P .mode) mode (packetBit e) (λ k h. packet-bit-lt e k) i l in (
+        turned (heard f s t g) (scrambler P t g) (coded (P .mode) (packetBit e) i) (heard-lt f s t g) (scrambling-lt _ _ g) bit,
+        λ h. ap (λ (x : ℕ). unscrambled x (scrambler P t g)) h ∙ unscrambled-twice (coded (P .mode) (packetBit e) i) (scrambler P t g) bit,
+      )
+
+  -- accepted exactly where some packet has the bits
+  pub accepted : (verdict (P .mode) (part P f s p) ≡ 0) ↔ SomePacket P f s p
+  accepted = (
+    (λ e. let c = accepted-coded (P .mode) mode (part P f s p) e in (_, c .0, λ i l. part-place _ i l .0 (c .1 i l))),
+    λ q. coded-accepted (P .mode) mode (part P f s p) (q .0) (λ i l. part-place (q .0) i l .1 (q .2 i l)),
+  )
+
+-- what is sent for packet p of a block
+pub sent-place : (P : Profile) (d : List ℕ) (p i : ℕ) → i < packetBits (P .mode) → sentInPlace P d p i ≡ bitInPlace P (packet (P .k) d p) p i
+unfolding sentBit
+sent-place P d p i l =
+    let L : ℕ = packetBits (P .mode) in
+    let S : ℕ = slotBits (P .mode) in
+    let g : ℕ = L * p + i in
+    let whole : S * (g / S) + g % S ≡ g = div-add-mod g S in
+    let own : g / L ≡ p = mul-add-div (omega (arith, l)) p i ∙ ap (λ (x : ℕ). p + x) (div-eq-of-lt l) ∙ add-zero p in
+    let place : g % L ≡ i = mul-add-mod-self-left L p i ∙ mod-eq-of-lt l in
+    ap (λ (c : ℕ). (c + scrambler P (g / S) (g % S)) % 2)
+    (ap (λ (x : ℕ). coded (P .mode) (packetBit (packet (P .k) d (x / L))) (x % L)) whole
+    ∙ ap₂ (λ (a b : ℕ). coded (P .mode) (packetBit (packet (P .k) d a)) b) own place)
