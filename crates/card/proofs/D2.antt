@@ -1,24 +1,26 @@
 -- Demand 2: cell for cell, and accepted exactly when some packet has the bits that the cells decide to.
-use mathlib.Core.Path.{_≡_, sym, _∙_}
+use mathlib.Core.Path.{_≡_, refl, sym, ap, ap₂, _∙_}
 use mathlib.Core.List.{List}
 use mathlib.Core.Logic.{_↔_}
-use Prim.Native.Nat.{ℕ, _*_, _<_}
-use native.Mathlib.Decide.{ℕ-discrete}
+use Prim.Native.Nat.{ℕ, _+_, _*_, _/_, _%_, _<_}
+use native.Mathlib.Decide.{ℕ-discrete, decLt}
 use native.Mathlib.Omega.{arith}
-use lib.Dec.{T}
+use lib.Dec.{T, eqb, ltb}
+use borrow.Author.Tests.{eq-eqb, ne-eqb, le-ltb}
 use lib.Ieee.{Float}
-use lib.ListN.{length}
-use Rattle.rules.specs.Bits.{row}
+use lib.ListN.{length, getD}
+use Rattle.rules.specs.Bits.{pick, row}
 use Rattle.rules.specs.Outer.{marked}
 use Rattle.rules.specs.Slots.{symbols}
-use Rattle.rules.specs.Points.{zeroPart}
+use Rattle.rules.specs.Points.{zeroPart, firstPart, secondPart}
 use Rattle.rules.specs.Profile.{inRange}
-use Rattle.rules.specs.Block.{Cells, SendRule, ReceiveRule}
+use Rattle.rules.specs.Block.{early, Cells, sentCell, SendRule, SendSymbolRule, ReceiveRule}
 use Rattle.rules.specs.Demands.{D2, SomePacket}
 use Rattle.rules.specs.declared.Profile.{Profile}
 use Rattle.rules.specs.declared.Receipt.{Receipt}
 use Rattle.laws.specs.Holds.{holds-one}
 use Rattle.profile.proofs.RoundTrip.{read-written, written-read}
+use Rattle.card.proofs.OneAnswer.{one-receipt}
 use Rattle.card.proofs.Place.{mode-of, judges, reason-verdict, accepted}
 
 -- cells leave one pair of lists
@@ -28,21 +30,48 @@ one-pair P d from n f s f' s' a b = (
   holds-one zeroPart (record { long = a .seconds-long; each = a .seconds-are }) (record { long = b .seconds-long; each = b .seconds-are }),
 )
 
-one-grid : (P : Profile) (d : List ℕ) (f s f' s' f'' s'' : List Float) (n m : ℕ)
-    → SendRule P d f s f' s' n
-    → SendRule P d f s f'' s'' m
-    → (n ≡ m) × (f' ≡ f'') × (s' ≡ s'')
-one-grid P d f s f' s' f'' s'' n m a b = go (ℕ-discrete n 0)
+-- where the answer for one symbol is 0, the symbol is in the grid
+in-grid : (n early symbol : ℕ) → 0 ≡ pick (eqb early 0) (pick (ltb symbol n) 0 8) early → symbol < n
+in-grid n early symbol e = go (ℕ-discrete early 0) (decLt symbol n)
   where
-    same : n ≡ m
-    same = a .answer ∙ sym (b .answer)
+    go : Dec (early ≡ 0) → Dec (symbol < n) → symbol < n
+    go z (yes lt) = lt
+    go (yes z) (no ge) = absurd (omega (arith, rw (eq-eqb early 0 z, le-ltb symbol n (omega arith)) at e))
+    go (no z) (no ge) = absurd (omega (arith, rw (ne-eqb early 0 z) at e))
 
+-- one answer, and the same lists: where it is 0 they hold the same cells, else they are as they were
+one-sending : (P : Profile) (d : List ℕ) (from count : ℕ) {f s f' s' f'' s'' : List Float} {n m : ℕ}
+    → n ≡ m
+    → (n ≡ 0 → Cells P d from count f' s')
+    → (m ≡ 0 → Cells P d from count f'' s'')
+    → (¬ (n ≡ 0) → (f' ≡ f) × (s' ≡ s))
+    → (¬ (m ≡ 0) → (f'' ≡ f) × (s'' ≡ s))
+    → (n ≡ m) × (f' ≡ f'') × (s' ≡ s'')
+one-sending P d from count {f' = f'} {s' = s'} {f'' = f''} {s'' = s''} {n = n} {m = m} same a b x y = go (ℕ-discrete n 0)
+  where
     go : Dec (n ≡ 0) → (n ≡ m) × (f' ≡ f'') × (s' ≡ s'')
-    go (yes e) = let q = one-pair P d 0 (symbols (P .mode)) f' s' f'' s'' (a .cells e) (b .cells (sym same ∙ e)) in (same, q .0, q .1)
+    go (yes e) = let q = one-pair P d from count f' s' f'' s'' (a e) (b (sym same ∙ e)) in (same, q .0, q .1)
     go (no ne) =
-        let x = a .kept ne in
-        let y = b .kept (λ e. ne (same ∙ e)) in
-        (same, x .0 ∙ sym (y .0), x .1 ∙ sym (y .1))
+        let p = x ne in
+        let q = y (λ e. ne (same ∙ e)) in
+        (same, p .0 ∙ sym (q .0), p .1 ∙ sym (q .1))
+
+symbol-of-grid : (P : Profile) (d : List ℕ) (symbol : ℕ) (f s f' s' F S F' S' : List Float) (i : ℕ)
+    → SendSymbolRule P d symbol f s f' s' 0
+    → SendRule P d F S F' S' 0
+    → i < 4096
+    → (getD f' i zeroPart ≡ getD F' (4096 * symbol + i) zeroPart) × (getD s' i zeroPart ≡ getD S' (4096 * symbol + i) zeroPart)
+symbol-of-grid P d symbol f s f' s' F S F' S' i one all lt =
+    let c = one .cells refl in
+    let g = all .cells refl in
+    let y : symbol + i / 4096 ≡ 0 + (4096 * symbol + i) / 4096 = omega arith in
+    let x : i % 4096 ≡ (4096 * symbol + i) % 4096 = omega arith in
+    let at : 4096 * symbol + i < 4096 * symbols (P .mode) = omega (arith, in-grid (symbols (P .mode)) (early P (length d) (length f) (length s) 4096) symbol (one .answer)) in
+    let cell : sentCell P d (symbol + i / 4096) (i % 4096) ≡ sentCell P d (0 + (4096 * symbol + i) / 4096) ((4096 * symbol + i) % 4096)
+        = ap₂ (sentCell P d) y x in
+    ( c .firsts-are i (omega arith) ∙ ap firstPart cell ∙ sym (g .firsts-are (4096 * symbol + i) at)
+    , c .seconds-are i (omega arith) ∙ ap secondPart cell ∙ sym (g .seconds-are (4096 * symbol + i) at)
+    )
 
 accepts : (P : Profile) (marks : ℕ) (f s : List Float) (before after : List ℕ) (a : Receipt)
     → ReceiveRule P marks f s before after a
@@ -60,4 +89,15 @@ accepts P marks f s before after a r t b x y p l u =
     ((λ e. iff .0 (sym is ∙ e)), λ q. is ∙ iff .1 q)
 
 pub d2 : D2
-d2 = record { one-grid = one-grid; accepts = accepts; read-written = read-written; written-read = written-read }
+d2 =
+    record {
+      one-grid = λ P d f s f' s' f'' s'' n m a b.
+          one-sending P d 0 (symbols (P .mode)) (a .answer ∙ sym (b .answer)) (a .cells) (b .cells) (a .kept) (b .kept);
+      one-symbol = λ P d symbol f s f' s' f'' s'' n m a b.
+          one-sending P d symbol 1 (a .answer ∙ sym (b .answer)) (a .cells) (b .cells) (a .kept) (b .kept);
+      one-receipt = λ P marks f s before after after' a b. one-receipt P marks before f s after after' a b;
+      symbol-of-grid = symbol-of-grid;
+      accepts = accepts;
+      read-written = read-written;
+      written-read = written-read;
+    }

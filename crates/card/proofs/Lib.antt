@@ -6,3 +6,4 @@ pub mod D1
 pub mod D2
 pub mod Grid
 pub mod D3
+pub mod OneAnswer

@@ -8,12 +8,12 @@ use Prim.Native.Nat.{ℕ, _+_, _-_, _*_, _/_, _%_, _<_, _≤_}
 use lib.Count.{ones}
 use lib.Dec.{T}
 use lib.Ieee.{Float}
-use lib.ListN.{length}
+use lib.ListN.{length, getD}
 use Rattle.rules.specs.Bits.{row, differ}
 use Rattle.rules.specs.Packet.{packetBit}
 use Rattle.rules.specs.Outer.{marked}
 use Rattle.rules.specs.Slots.{slotBits, packetBits, symbols, coded}
-use Rattle.rules.specs.Points.{doubtful}
+use Rattle.rules.specs.Points.{zeroPart, doubtful}
 use Rattle.rules.specs.Profile.{inRange, Shape, reading, writing, written, blank}
 use Rattle.rules.specs.Answers.{isNumber, isReason}
 use Rattle.rules.specs.Block.{scrambler, sentBit, heard, Cells, SendRule, SendSymbolRule, ReceiveRule}
@@ -57,11 +57,25 @@ SomePacket P f s p =
     × ((i : ℕ) → i < packetBits (P .mode) → heardInPlace P f s p i ≡ bitInPlace P e p i)
 
 pub record D2 : Type 0 where
-  -- the rule of sending leaves one answer only
+  -- the rules of sending and receiving leave one answer only
   pub one-grid : (P : Profile) (d : List ℕ) (f s f' s' f'' s'' : List Float) (n m : ℕ)
       → SendRule P d f s f' s' n
       → SendRule P d f s f'' s'' m
       → (n ≡ m) × (f' ≡ f'') × (s' ≡ s'')
+  pub one-symbol : (P : Profile) (d : List ℕ) (symbol : ℕ) (f s f' s' f'' s'' : List Float) (n m : ℕ)
+      → SendSymbolRule P d symbol f s f' s' n
+      → SendSymbolRule P d symbol f s f'' s'' m
+      → (n ≡ m) × (f' ≡ f'') × (s' ≡ s'')
+  pub one-receipt : (P : Profile) (marks : ℕ) (f s : List Float) (before after after' : List ℕ) (a a' : Receipt)
+      → ReceiveRule P marks f s before after a
+      → ReceiveRule P marks f s before after' a'
+      → (a ≡ a') × (after ≡ after')
+  -- one symbol sent alone is that part of the whole grid
+  pub symbol-of-grid : (P : Profile) (d : List ℕ) (symbol : ℕ) (f s f' s' F S F' S' : List Float) (i : ℕ)
+      → SendSymbolRule P d symbol f s f' s' 0
+      → SendRule P d F S F' S' 0
+      → i < 4096
+      → (getD f' i zeroPart ≡ getD F' (4096 * symbol + i) zeroPart) × (getD s' i zeroPart ≡ getD S' (4096 * symbol + i) zeroPart)
   -- receiving, if it reads the cells, accepts an unmarked packet exactly when there is such a packet
   pub accepts : (P : Profile) (marks : ℕ) (f s : List Float) (before after : List ℕ) (a : Receipt)
       → ReceiveRule P marks f s before after a
