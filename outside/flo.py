@@ -48,8 +48,10 @@ def parity(data, r):
 # ---- packets and their check word
 
 def check_word(data):
-    bits = "".join(f"{b:08b}" for b in data)
-    # long division of (data + first sixteen bits flipped) * x^16 by x^16 + x^12 + x^5 + 1
+    return check_of("".join(f"{b:08b}" for b in data))
+
+def check_of(bits):
+    """Of bits as text: long division of (the bits, the first sixteen of them flipped) * x^16 by x^16 + x^12 + x^5 + 1."""
     value = int(bits, 2) << 16
     value ^= 0xFFFF << len(bits)
     for i in range(len(bits) + 15, 15, -1):
@@ -154,3 +156,168 @@ def write_profile(profile):
                                  b"".join(struct.pack(">I", s) for s in seeds)], 1):
         out += bytes([tag]) + struct.pack(">H", len(value)) + value
     return out
+
+# ---- restoring: each packet is a sum of data packets; the kept ones are solved for these by elimination, all columns at once
+
+def restore(k, lost, data):
+    """The number of document 01's table, and the block after it."""
+    if k not in (8, 12, 14):
+        return 4, data
+    if len(data) != 1952:
+        return 6, data
+    kept = [p for p in range(16) if not lost >> p & 1]
+    if len(kept) < k:
+        return 9, data
+    units = [[int(i == j) for j in range(k)] for i in range(k)]
+    codewords = [unit + parity(unit, 16 - k) for unit in units]
+    rows = [[codeword[p] for codeword in codewords] + data[122 * p:122 * p + 122] for p in kept]
+    for i in range(k):
+        pivot = next(row for row in rows[i:] if row[i])
+        rows.remove(pivot)
+        scale = gf_pow(pivot[i], 254)
+        pivot = [gf_mul(scale, v) for v in pivot]
+        rows = [[v ^ gf_mul(row[i], w) for v, w in zip(row, pivot)] for row in rows]
+        rows.insert(i, pivot)
+    if any(any(row) for row in rows[k:]):
+        return 10, data
+    return 0, sum(block(sum((row[k:] for row in rows[:k]), []), k), [])
+
+# ---- crates/vectors/stdout
+
+def formula(n):
+    return [(i * i * 7 + i * 13 + 5) % 251 for i in range(n)]
+
+def word(values, width):
+    """The check word of numbers of this many bits each."""
+    return f"{check_of(''.join(f'{v:0{width}b}' for v in values)):04x}"
+
+def differing(a, b):
+    return sum(x != y for x, y in zip(a, b))
+
+def digits(bits):
+    return "".join(map(str, bits))
+
+def hexes(values):
+    return " ".join(f"{v:02x}" for v in values)
+
+def packet_lines():
+    yield "packet digits", word(b"123456789", 8)
+    for name, data in ("zeros", [0] * 122), ("ones", [255] * 122), ("formula", formula(122)):
+        bits = packet_bits(data)
+        yield "packet", name, word(bits, 1), *map(digits, (bits[:16], bits[968:976], bits[976:992], bits[992:]))
+    bits = packet_bits(formula(122))
+    for flipped in 0, 975, 976, 991, 992, 993, 994:
+        wrong = bits[:flipped] + [1 - bits[flipped]] + bits[flipped + 1:]
+        data = [int(digits(wrong[8 * j:8 * j + 8]), 2) for j in range(122)]
+        right = wrong[976:992] == packet_bits(data)[976:992]
+        yield "packet flipped", flipped, int(right), int(wrong[992:994] == [0, 0]), hexes([data[0], data[121]])
+
+def field_lines():
+    pairs = zip([0, 1, 2, 128, 255, 73, 56, 207, 238, 245, 94, 235], [7, 255, 128, 2, 255, 73, 207, 56, 245, 94, 235, 238])
+    yield "field products", hexes(gf_mul(a, b) for a, b in pairs)
+    yield "field table", word([gf_mul(17 * a, b) for a in range(16) for b in range(256)], 8)
+    for a in 2, 3, 0:
+        yield "field powers", hexes(gf_pow(a, k) for k in (0, 1, 8, 44, 70, 152, 201, 231, 235, 246, 254, 255))
+    inverses = [next((b for b in range(256) if gf_mul(a, b) == 1), 0) for a in range(256)]
+    yield "field inverses", hexes(inverses[a] for a in (0, 1, 2, 3, 73, 254, 255)), word(inverses, 8)
+
+def outer_lines():
+    for k in 8, 12, 14:
+        packets = block(formula(1952), k)
+        yield "parity", k, 0, word(sum(packets[k:], []), 8)
+        for p in range(k, 16):
+            yield "parity packet", k, p, hexes(packets[p][j] for j in (0, 1, 2, 121))
+    for k, lost, altered in [(14, 0, 1952), (14, 0x24, 1952), (14, 0x8001, 1952), (14, 0x224, 1952), (14, 0, 1708), (14, 0, 1951), (14, 0, 5),
+                             (14, 0x4, 1951), (14, 0x24, 1951), (12, 0xF, 1952), (12, 0x8812, 1952), (12, 0x9812, 1952), (12, 0x802, 700),
+                             (8, 0xFF, 1952), (8, 0xFF00, 1952), (8, 0xAAAA, 1952), (8, 0x1FF, 1952), (8, 0x7F, 1951), (8, 0, 976)]:
+        sent = sum(block(formula(1952), k), [])
+        given = [b ^ (1 if i == altered else 90 if lost >> (i // 122) & 1 else 0) for i, b in enumerate(sent)]
+        number, back = restore(k, lost, given)
+        yield "restore", k, f"{lost:04x}", altered, number, differing(sent, back), differing(given, back), word(back, 8)
+    for k, n in (0, 1952), (7, 1952), (10, 1952), (16, 1952), (255, 1951), (8, 1951), (12, 1951), (12, 1953), (14, 1953):
+        yield "refused", k, n, *[restore(k, 0, [1] * n)[0]] * 2, 0
+
+def judged(bits, mode=1):
+    """The reason and the bytes of a packet's decided bits: the rule read from the receiver's side."""
+    rate = 3 if mode == 0 else 2
+    rows = len(bits) // 4
+    straight = [bits[4 * q + c] for c in range(4) for q in range(rows)]
+    x = straight[0:rate * 994:rate]
+    data = [int(digits(x[8 * j:8 * j + 8]), 2) for j in range(122)]
+    if x[976:992] != packet_bits(data)[976:992]:
+        return 13, [0] * 122
+    if x[992:994] != [0, 0]:
+        return 14, [0] * 122
+    return (0, data) if coded_packet(data, mode) == bits else (15, [0] * 122)
+
+def coded_line(name, mode, number, bits):
+    return "coded", name, mode, number, word(bits, 1), digits(bits[:32]), digits(bits[-32:])
+
+def coded_lines():
+    for name, data in [("zeros", [0] * 122), ("ones", [255] * 122), ("formula", formula(122))]:
+        for mode in (0, 1):
+            yield coded_line(name, mode, 0, coded_packet(data, mode))
+    yield coded_line("short", 1, 6, [0] * 2000)
+    yield coded_line("room", 0, 6, [0] * 2999)
+    yield coded_line("mode", 2, 4, [0] * 2000)
+    for at in (2000, 0, 4, 1999):
+        bits = coded_packet(formula(122), 1)
+        if at < 2000:
+            bits[at] ^= 1
+        reason, data = judged(bits)
+        yield "judged", at, reason, word(data, 8)
+
+def slot_lines():
+    for seed in 1, 0xFFFFF, 0x12345:
+        for mask in 0x00001, 0x80000, 0x5A5A5:
+            bits = scrambling(seed, mask, 1000)
+            yield "scrambler", f"{seed:05x} {mask:05x}", word(bits, 1), digits(bits[:21])
+    noise = scrambling(0x12345, 0x5A5A5, 12)
+    yield "scrambler doubtful", digits(2 if i % 3 == 2 else i % 3 ^ noise[i] for i in range(12))
+
+def cell_lines():
+    for mode, slots, shown, edged in (0, 48, (0, 1, 5, 6, 7), (0, 6)), (1, 32, (0, 3, 4, 5), (4,)):
+        carried = {(t // 7, c): (t, i) for t in range(slots) for i, c in enumerate(interlace(1 + t % 7))}
+        for symbol in shown:
+            row = [carried.get((symbol, c)) for c in range(4096)]
+            yield "cells", mode, symbol, 4096 - row.count(None), word([(p[0] * 500 + p[1]) % 251 + 1 if p else 0 for p in row], 8)
+        for symbol in edged:
+            for c in 48, 49, 2040, 2041, 2048, 2049, 2056, 4041, 4047, 4048, 4049:
+                yield "cell", mode, symbol, c, *carried.get((symbol, c), ["nothing"])
+
+def decision(part):
+    return 0 if part > 0 else 1 if part < 0 else 2
+
+def pattern(part):
+    """Of a NaN it is the one with only the highest of its digits set."""
+    return struct.pack(">f", part).hex() if part == part else "7fc00000"
+
+def decision_lines():
+    for bits in (0, 0x80000000, 1, 0x80000001, 0x3F800000, 0xBF800000, 0x7F7FFFFF, 0xFF7FFFFF, 0x7F800000, 0xFF800000,
+                 0x7FC00000, 0xFFC00001, 0x7F800001, 0xFFFFFFFF):
+        part = struct.unpack(">f", struct.pack(">I", bits))[0]
+        yield "decide", f"{bits:08x}", decision(part), pattern(part)
+    level = struct.unpack(">f", bytes.fromhex("3f3504f3"))[0]
+    for s0 in 0, 1:
+        for s1 in 0, 1:
+            point = -level if s0 else level, -level if s1 else level
+            yield "point", s0, s1, *map(pattern, point), *map(decision, point)
+
+def vectors():
+    yield from packet_lines()
+    yield from field_lines()
+    yield from outer_lines()
+    yield from coded_lines()
+    kept = addresses()
+    yield "interleaver", word(kept, 10), *kept[:5], *kept[-5:]
+    yield from slot_lines()
+    yield from cell_lines()
+    yield from decision_lines()
+
+NAMES = {"vectors": vectors}
+
+if __name__ == "__main__":
+    if len(sys.argv) != 2 or sys.argv[1] not in NAMES:
+        sys.exit(__doc__ + "    names: " + " ".join(NAMES))
+    for line in NAMES[sys.argv[1]]():
+        print(*line)

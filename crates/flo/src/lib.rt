@@ -1,0 +1,114 @@
+// The C interface, thin: include/flo.h says each call's rule in words.
+ghost use mathlib.Core.Path.{_≡_};
+ghost use Prim.Native.Nat.{ℕ};
+ghost use Rattle.flo.specs.Calls.{FloSend, FloSendSymbol, FloReceive, FloReadProfile, FloWriteProfile, FloParity};
+use rules::Outcome;
+use rules::Profile;
+
+#[no_mangle]
+pub extern "C" fn flo_send(profile: &[u8], data: &[u8], firsts: &mut [f32], seconds: &mut [f32]) -> u32
+    ensures { λ r. ⌜ FloSend (now (profile .entry)) (now («data» .entry)) (now (firsts .entry)) (now (seconds .entry)) (now (firsts .exit)) (now (seconds .exit)) r ⌝ }
+{
+    let a = profile::read(profile);
+    if a.number != 0 {
+        return a.number;
+    }
+    let p = a.profile;
+    sending::send(p, data, firsts, seconds)
+}
+
+#[no_mangle]
+pub extern "C" fn flo_send_symbol(profile: &[u8], data: &[u8], symbol: usize, firsts: &mut [f32], seconds: &mut [f32]) -> u32
+    ensures { λ r. ⌜ FloSendSymbol (now (profile .entry)) (now («data» .entry)) symbol (now (firsts .entry)) (now (seconds .entry)) (now (firsts .exit)) (now (seconds .exit)) r ⌝ }
+{
+    let a = profile::read(profile);
+    if a.number != 0 {
+        return a.number;
+    }
+    let p = a.profile;
+    sending::send_symbol(p, data, symbol, firsts, seconds)
+}
+
+#[no_mangle]
+pub extern "C" fn flo_receive(
+    profile: &[u8],
+    marks: u16,
+    firsts: &[f32],
+    seconds: &[f32],
+    data: &mut [u8],
+    lost: &mut u16,
+    reasons: &mut [u8; 16],
+) -> u32
+    ensures { λ r. ⌜ FloReceive (now (profile .entry)) marks (now (firsts .entry)) (now (seconds .entry)) (now («data» .entry)) (now («data» .exit)) (now (lost .exit)) (now (reasons .exit)) r ⌝ }
+{
+    let a = profile::read(profile);
+    if a.number != 0 {
+        *lost = 0;
+        *reasons = [0u8; 16];
+        return a.number;
+    }
+    let p = a.profile;
+    let receipt = receiving::receive(p, marks, firsts, seconds, data);
+    *lost = receipt.lost;
+    let each = receipt.reasons;
+    *reasons = each;
+    receipt.number
+}
+
+#[no_mangle]
+pub extern "C" fn flo_read_profile(
+    profile: &[u8],
+    masks: &mut [u32; 8],
+    level: &mut f32,
+    mode: &mut u8,
+    k: &mut u8,
+    seeds: &mut [u32; 48],
+) -> u32
+    ensures { λ r. ⌜ FloReadProfile (now (profile .entry)) (now (masks .exit)) (now (level .exit)) (now (mode .exit)) (now (k .exit)) (now (seeds .exit)) r ⌝ }
+{
+    let a = profile::read(profile);
+    let p = a.profile;
+    let m = p.masks;
+    *masks = m;
+    *level = p.level;
+    *mode = p.mode;
+    *k = p.k;
+    let s = p.seeds;
+    *seeds = s;
+    a.number
+}
+
+#[no_mangle]
+pub extern "C" fn flo_write_profile(
+    masks: &[u32; 8],
+    level: f32,
+    mode: u8,
+    k: u8,
+    seeds: &[u32; 48],
+    profile: &mut [u8; 245],
+    count: &mut usize,
+) -> u32
+    ensures { λ r. ⌜ FloWriteProfile (now (masks .entry)) level mode k (now (seeds .entry)) (now (profile .exit)) (now (count .exit)) r ⌝ }
+{
+    let m = *masks;
+    let s = *seeds;
+    let a = profile::write(Profile { masks: m, level, mode, k, seeds: s });
+    let bytes = a.bytes;
+    *profile = bytes;
+    *count = a.count;
+    a.number
+}
+
+#[no_mangle]
+pub extern "C" fn flo_parity(k: u8, block: &mut [u8]) -> u32
+    ensures { λ r. ⌜ FloParity k (now (block .entry)) (now (block .exit)) r ⌝ }
+{
+    let outcome = outer::fill_parity(k, block);
+    match outcome {
+        Outcome::Done => 0,
+        Outcome::BadK => 4,
+        Outcome::BadLength => 6,
+        Outcome::TooManyLost => 9,
+        Outcome::NoCodeword => 10,
+    }
+}

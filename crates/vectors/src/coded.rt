@@ -1,0 +1,82 @@
+// Whole coded packets at both rates, and the judgement on one with a flipped bit.
+ghost use mathlib.Core.Path.{_≡_};
+ghost use Prim.Native.Nat.{_<_, _≤_};
+ghost use lib.ListN.{length};
+use super::print;
+use super::rows;
+use super::rows::Row;
+use rules::Coding;
+
+fn number(c: Coding) -> usize {
+    match c {
+        Coding::Coded => 0,
+        Coding::WrongMode => 4,
+        Coding::WrongLength => 6,
+    }
+}
+
+// The answer's number, the check word of all bits, and the first and last of them.
+fn coded(name: &[u8], mode: u8, bytes: &[u8], out: &mut [u8])
+    requires { ⌜ 32 ≤ length (now out) ⌝ }
+{
+    let answer = turbo::code(mode, bytes, out);
+    print::text(b"coded ");
+    print::text(name);
+    print::byte(mode);
+    print::decimal(number(answer));
+    print::word(out);
+    print::digits(&out[0..32]);
+    let from = out.len() - 32;
+    print::digits(&out[from..]);
+    print::end();
+}
+
+fn both(name: &[u8], bytes: &[u8]) {
+    coded(name, 0, bytes, &mut [0u8; 3000]);
+    coded(name, 1, bytes, &mut [0u8; 2000]);
+}
+
+// The reason, and the check word of the bytes.
+fn verdict(at: usize, v: &[u8])
+    requires { ⌜ length (now v) ≡ 2000 ⌝ }
+{
+    let a = turbo::judge(1, v);
+    print::text(b"judged");
+    print::decimal(at);
+    print::byte(a.reason);
+    print::bytes_word(&a.bytes);
+    print::end();
+}
+
+// With one bit flipped, or none.
+fn flipped(at: usize, v: &mut [u8])
+    requires { ⌜ length (now v) ≡ 2000 ⌝ }
+{
+    if at < 2000 {
+        v[at] = v[at] ^ 1;
+        verdict(at, v);
+        return;
+    }
+    verdict(at, v);
+}
+
+fn judged(at: usize, bytes: &[u8]) {
+    let mut v = [0u8; 2000];
+    turbo::code(1, bytes, &mut v);
+    flipped(at, &mut v);
+}
+
+pub fn all() {
+    both(b"zeros", &[0u8; 122]);
+    both(b"ones", &[255u8; 122]);
+    let mut bytes = [0u8; 122];
+    rows::add(Row::Formula, &mut bytes);
+    both(b"formula", &bytes);
+    coded(b"short", 1, &bytes[0..121], &mut [0u8; 2000]);
+    coded(b"room", 0, &bytes, &mut [0u8; 2999]);
+    coded(b"mode", 2, &bytes, &mut [0u8; 2000]);
+    judged(2000, &bytes);
+    judged(0, &bytes);
+    judged(4, &bytes);
+    judged(1999, &bytes);
+}
