@@ -4,3 +4,4 @@ pub mod Every
 pub mod Filled
 pub mod Lists
 pub mod Bytes
+pub mod Parts

@@ -1,21 +1,56 @@
 // Sending a block: its bits, and its cells.
 ghost use mathlib.Core.Path.{_≡_};
-ghost use Prim.Native.Nat.{ℕ, _+_, _*_, _/_, _%_, _<_};
+ghost use Prim.Native.Nat.{ℕ, _+_, _*_, _/_, _%_, _<_, _≤_};
 ghost use lib.Dec.{T};
 ghost use lib.ListN.{length};
 ghost use Rattle.rules.specs.Bits.{row};
-ghost use Rattle.rules.specs.Slots.{slots, slotBits};
+ghost use Rattle.rules.specs.Outer.{isK};
+ghost use Rattle.rules.specs.Slots.{isMode, packetBits, slots, slotBits, symbols};
 ghost use Rattle.rules.specs.Profile.{inRange};
 ghost use Rattle.rules.specs.Block as rule;
-ghost use Rattle.rules.specs.Block.{sentBit, SendRule, SendSymbolRule};
+ghost use Rattle.rules.specs.Block.{packet, sentBit, SendRule, SendSymbolRule};
+ghost use Rattle.laws.specs.Holds.{Holds};
 ghost use Rattle.laws.specs.Rows.{Bits};
+ghost use Rattle.sending.specs.Steps.{codedRow, Grid};
+use block::early;
+use block::packet_bits;
+use block::scrambled;
+use block::slot_count;
+use block::symbol_count;
 use rules::Profile;
 
-// 4, 6, 7, the first that fits, else 0.
-pub fn early(p: Profile, bytes: usize, firsts: usize, seconds: usize, cells: usize) -> u32
-    ensures { λ r. ⌜ r ≡ rule.early p bytes firsts seconds cells ⌝ }
+// The block's 16 packets of 122 bytes, packet after packet: the data, and its parity.
+fn block_of(k: u8, data: &[u8]) -> [u8; 1952]
+    requires { ⌜ T (isK k) × (length (now «data») ≡ 122 * k) ⌝ }
+    ensures { λ r. ⌜ ((p j : ℕ) → p < 16 → j < 122 → row r (122 * p + j) ≡ packet k (now («data» .entry)) p j) ⌝ }
 {
-    4
+    let mut block = [0u8; 1952];
+    for i in 0..data.len() {
+        block[i] = data[i];
+    }
+    outer::fill_parity(k, &mut block);
+    block
+}
+
+// The coded bits of the block's packets, packet after packet, and zeros after them.
+fn coded_bits(mode: u8, block: [u8; 1952]) -> [u8; 48000]
+    requires { ⌜ T (isMode mode) ⌝ }
+    ensures { λ r. ⌜ Holds 0 48000 (codedRow mode (packetBits mode * 16) block) r ⌝ }
+{
+    let addresses = interleaver::addresses();
+    let n = packet_bits(mode);
+    let mut bits = [0u8; 48000];
+    for p in 0..16 {
+        let from = 122 * p;
+        let at = n * p;
+        turbo::code_with(
+            addresses,
+            mode,
+            &block[from..from + 122],
+            &mut bits[at..at + n],
+        );
+    }
+    bits
 }
 
 // The block's bits, scrambled, slot after slot.
@@ -25,14 +60,51 @@ fn sent_bits(p: Profile, data: &[u8]) -> [u8; 48000]
         × ((g : ℕ) → g < slotBits (p .mode) * slots (p .mode)
         → row r g ≡ sentBit p (now («data» .entry)) (g / slotBits (p .mode)) (g % slotBits (p .mode))) ⌝ }
 {
-    [0u8; 48000]
+    let block = block_of(p.k, data);
+    let bits = coded_bits(p.mode, block);
+    scrambled(p, bits)
+}
+
+// All symbols of the block that has these bits.
+fn write_grid(mode: u8, level: f32, bits: &[u8], firsts: &mut [f32], seconds: &mut [f32])
+    requires { ⌜ T (isMode mode) × (length (now bits) ≡ slotBits mode * slots mode) × Bits (now bits)
+        × (length (now firsts) ≡ 4096 * symbols mode) × (length (now seconds) ≡ 4096 * symbols mode) ⌝ }
+    ensures { λ _. ⌜ Grid mode level (now (bits .entry)) (now (firsts .exit)) (now (seconds .exit)) ⌝ }
+{
+    let n = symbol_count(mode);
+    for y in 0..n {
+        let at = 4096 * y;
+        let end = at + 4096;
+        cells::write_symbol(
+            mode,
+            level,
+            bits,
+            y,
+            &mut firsts[at..end],
+            &mut seconds[at..end],
+        );
+    }
 }
 
 // Fills the whole grid.
 pub fn send(p: Profile, data: &[u8], firsts: &mut [f32], seconds: &mut [f32]) -> u32
     ensures { λ r. ⌜ SendRule p (now («data» .entry)) (now (firsts .entry)) (now (seconds .entry)) (now (firsts .exit)) (now (seconds .exit)) r ⌝ }
 {
-    4
+    let mode = p.mode;
+    let number = early(
+        p,
+        data.len(),
+        firsts.len(),
+        seconds.len(),
+        4096 * symbol_count(mode),
+    );
+    if number != 0 {
+        return number;
+    }
+    let bits = sent_bits(p, data);
+    let n = 1000 * slot_count(mode);
+    write_grid(mode, p.level, &bits[..n], firsts, seconds);
+    0
 }
 
 // Fills two lists of 4096 with one symbol's cells.
@@ -45,5 +117,16 @@ pub fn send_symbol(
 ) -> u32
     ensures { λ r. ⌜ SendSymbolRule p (now («data» .entry)) symbol (now (firsts .entry)) (now (seconds .entry)) (now (firsts .exit)) (now (seconds .exit)) r ⌝ }
 {
-    4
+    let mode = p.mode;
+    let number = early(p, data.len(), firsts.len(), seconds.len(), 4096);
+    if number != 0 {
+        return number;
+    }
+    if symbol >= symbol_count(mode) {
+        return 8;
+    }
+    let bits = sent_bits(p, data);
+    let n = 1000 * slot_count(mode);
+    cells::write_symbol(mode, p.level, &bits[..n], symbol, firsts, seconds);
+    0
 }

@@ -1,0 +1,3 @@
+pub mod Ranges
+pub mod Passed
+pub mod Scrambling

@@ -1,0 +1,5 @@
+pub mod Mask
+pub mod Judgement
+pub mod OneSymbol
+pub mod Numbers
+pub mod BySymbol

@@ -1,0 +1,75 @@
+-- One symbol's decisions among the block's bits, of which there may be room for more than a block has.
+use mathlib.Core.Path.{_≡_, refl, sym, _∙_, ap, ap₂}
+use mathlib.Core.Bool.{Bool, not, _&&_}
+use mathlib.Core.List.{List, _++_}
+use Prim.Native.Nat.{ℕ, _+_, _*_, _/_, _%_, _<_, _≤_}
+use native.Mathlib.Omega.{arith}
+use lib.Dec.{eqb, ltb}
+use lib.Ieee.{Float}
+use lib.ListN.{length, take, drop, length-append, length-drop, List·getD-append}
+use lib.Seq.{getD-take}
+use borrow.Author.Tests.{eq-eqb, ne-eqb}
+use Rattle.rules.specs.Bits.{pick, row}
+use Rattle.rules.specs.Slots.{slotBits, slots, symbols, symbolOf}
+use Rattle.rules.specs.Points.{decide}
+use Rattle.rules.specs.Cells.{pointCell}
+use Rattle.rules.specs.Profile.{inRange}
+use Rattle.rules.specs.Block.{partOf, HearRule}
+use Rattle.rules.specs.declared.Profile.{Profile}
+use Rattle.laws.specs.Holds.{Holds}
+use Rattle.laws.specs.Lists.{Filled}
+use Rattle.cells.specs.Symbol.{heardIn, decidedIn}
+
+module _ (m y : ℕ) (f s : List Float) (b : List ℕ) where
+  -- the first n bits are lent, and come back
+  pub lent-front : (n : ℕ) (l : List ℕ)
+      → n ≡ slotBits m * slots m
+      → n ≤ length b
+      → Holds 0 (slotBits m * slots m) (decidedIn m y f s (take n b)) l
+      → Filled 0 (length b) (decidedIn m y f s b) (slotBits m * slots m) (l ++ drop n b)
+  lent-front n l e most h =
+      record {
+        long = simp (length-append, length-drop) (omega (arith, h .long));
+        each = λ g lt.
+            List·getD-append l (drop n b) 0 g (omega (arith, h .long)) ∙ h .each g lt
+            ∙ ap (pick (eqb (symbolOf (g / slotBits m)) y) (heardIn m f s g)) (getD-take n b g 0 (omega arith));
+      }
+
+-- bit i of slot t
+decided-at : (m y t i : ℕ) (f s : List Float) (b : List ℕ) → i < slotBits m
+    → decidedIn m y f s b (slotBits m * t + i)
+    ≡ pick (eqb (symbolOf t) y) (decide (partOf i f s (pointCell t (i / 2)))) (row b (slotBits m * t + i))
+decided-at m y t i f s b h =
+    let slot : (slotBits m * t + i) / slotBits m ≡ t = omega arith in
+    let bit : (slotBits m * t + i) % slotBits m ≡ i = omega arith in
+    ap₂ (λ (u k : ℕ). pick (eqb (symbolOf u) y) (decide (partOf k f s (pointCell u (k / 2)))) (row b (slotBits m * t + i))) slot bit
+
+-- the number that hearing answers
+abbrev numbered : Profile → ℕ → ℕ → ℕ → ℕ
+numbered P y firsts seconds =
+    pick (not (inRange P)) 4 (pick (not (eqb firsts 4096 && eqb seconds 4096)) 7 (pick (ltb y (symbols (P .mode))) 0 8))
+
+module _ (P : Profile) (y : ℕ) (f s : List Float) (b : List ℕ) where
+  pub hear-refused : (n : ℕ) → n ≡ numbered P y (length f) (length s) → ¬ (n ≡ 0) → HearRule P y f s b b n
+  hear-refused n e ne =
+      record {
+        answer = e;
+        long = refl;
+        own = λ z. absurd (ne z);
+        others = λ z. absurd (ne z);
+        kept = λ z. refl;
+      }
+
+  pub hear-filled : (l : List ℕ) → 0 ≡ numbered P y (length f) (length s)
+      → Filled 0 (length b) (decidedIn (P .mode) y f s b) (slotBits (P .mode) * slots (P .mode)) l
+      → HearRule P y f s b l 0
+  hear-filled l e h =
+      record {
+        answer = e;
+        long = h .long;
+        own = λ z t i ht hi o.
+            h .each (slotBits (P .mode) * t + i) (omega arith) ∙ decided-at (P .mode) y t i f s b hi ∙ rw (eq-eqb (symbolOf t) y o);
+        others = λ z t i ht hi o.
+            h .each (slotBits (P .mode) * t + i) (omega arith) ∙ decided-at (P .mode) y t i f s b hi ∙ rw (ne-eqb (symbolOf t) y o);
+        kept = λ ne. absurd (ne refl);
+      }

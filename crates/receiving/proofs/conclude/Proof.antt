@@ -1,0 +1,53 @@
+-- A number before any judgement, or the judgement.
+use mathlib.Core.Path.{_≡_, refl, sym, _∙_}
+use mathlib.Core.List.{List}
+use Prim.Native.Nat.{ℕ, _*_}
+use lib.Dec.{T}
+use lib.ListN.{length}
+use borrow.Author.Needs.{needs}
+use Rattle.rules.specs.Profile.{inRange}
+use Rattle.block.proofs.Passed.{right}
+use Rattle.receiving.proofs.Numbers.{concluding, early-whole, conclude-refused, conclude-judged}
+use Rattle.receiving.proofs.conclude.Statement.{statement}
+use Rattle.receiving.proofs.conclude.Tie as tie
+
+early-requires : tie.Need-early-requires
+early-requires c κs = search needs
+
+silence-requires : tie.Need-silence-requires
+silence-requires c κs = search needs
+
+-- there are no lists of cells here
+number : (c : tie.After-early)
+    → let a = c .before .before .args in c .early .result ≡ concluding (a .p) (length (a .«data» .now))
+number c = let a = c .before .before .args in c .early .ensures ∙ early-whole (a .p) (length (a .«data» .now)) 0 0 0 refl refl
+
+returns : tie.Need-returns
+returns c =
+    let e = c .before .before in
+    let a = e .before .before .args in
+    conclude-refused (a .p) (a .marks) (a .«data» .now) (a .«data» .now) (c .silence .result) (a .bits) (e .early .result) (number e)
+    (c .before .if1 .taken) (c .silence .ensures) refl
+
+judge-requires : tie.Need-judge-requires
+judge-requires c κs =
+    let e = c .before .before in
+    let a = e .before .before .args in
+    let passed = right (a .p) (length (a .«data» .now)) 0 0 0 (sym (e .early .ensures) ∙ c .before .if1 .left) in
+    (passed .range, passed .data-long)
+
+same-length : tie.Need-same-length
+same-length c = search needs
+
+returns-2 : tie.Need-returns-2
+returns-2 c =
+    let i = c .before .before .before .before in
+    let e = i .before in
+    let a = e .before .before .args in
+    conclude-judged (a .p) (a .marks) (a .«data» .now) _ (c .before .before .judge .result) (a .bits) (sym (number e) ∙ i .if1 .left)
+    (c .before .before .judge .ensures)
+
+pub conclude-spec : {M : Type 1} → statement M
+conclude-spec =
+    tie.close
+    (tie.spec early-requires silence-requires returns judge-requires same-length returns-2)

@@ -1,0 +1,5 @@
+pub mod Packets
+pub mod Coding
+pub mod Sent
+pub mod Grid
+pub mod Cells

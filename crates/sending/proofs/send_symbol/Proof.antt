@@ -1,0 +1,111 @@
+-- `sending::send_symbol` meets its contract.
+use mathlib.Core.Path.{refl, sym, _∙_, ap}
+use Prim.Native.Nat.{ℕ, _*_, _<_, _≤_}
+use native.Mathlib.Omega.{arith}
+use borrow.Author.Needs.{needs}
+use borrow.Author.Tests.{lt-ltb, le-ltb, ne-eqb}
+use lib.ListN.{length, take}
+use Rattle.rules.specs.Slots.{symbols}
+use Rattle.block.proofs.Ranges.{ranges}
+use Rattle.block.proofs.Passed.{Right, right}
+use Rattle.sending.proofs.Cells.{Front, front, symbol-cells}
+use Rattle.sending.proofs.send_symbol.Statement.{statement}
+use Rattle.sending.proofs.send_symbol.Tie as tie
+
+early-requires : tie.Need-early-requires
+early-requires c κs = search needs
+
+passed : (c : tie.Else1)
+    → (let a = c .before .before .before .before .before .args in
+    Right (a .p) (length (a .«data» .now)) (length (a .firsts .now)) (length (a .seconds .now)) 4096)
+passed c = right _ _ _ _ _ (sym (c .before .early .ensures) ∙ c .if1 .left)
+
+-- the bits that are lent
+lent : (c : tie.After-slot-count)
+    → (let a = c .before .before .before .before .before .before .before .before .before .args in
+    Front (a .p) (a .«data» .now) (take (1000 * c .slot-count .result) (c .before .sent-bits .result)))
+lent c =
+    let a = c .before .before .before .before .before .before .before .before .before .args in
+    let b = c .before .sent-bits in
+    front (a .p) (a .«data» .now) (1000 * c .slot-count .result) (b .result) (ap (λ (n : ℕ). 1000 * n) (c .slot-count .ensures .0))
+    (b .ok .1 .0 .1) (b .ensures .0) (b .ensures .1)
+
+returns : tie.Need-returns
+returns c =
+    record {
+      answer = sym (rw (← c .before .early .ensures, ne-eqb _ _ (c .if1 .taken)));
+      cells = λ z. absurd (c .if1 .taken z);
+      kept = λ _. (refl, refl);
+    }
+
+symbol-count-requires : tie.Need-symbol-count-requires
+symbol-count-requires c κs = search needs
+
+returns-2 : tie.Need-returns-2
+returns-2 c =
+    let a = c .before .before .before .before .before .before .before .args in
+    let past : symbols (a .p .mode) ≤ a .symbol = omega (arith, c .before .symbol-count .ensures .0) in
+    record {
+      answer = sym (rw (← c .before .before .before .early .ensures, c .before .before .if1 .left, le-ltb _ _ past));
+      cells = λ z. absurd (omega arith);
+      kept = λ _. (refl, refl);
+    }
+
+sent-bits-requires : tie.Need-sent-bits-requires
+sent-bits-requires c κs = let ok = passed (c .before .before) in (ok .range, ok .data-long)
+
+slot-count-requires : tie.Need-slot-count-requires
+slot-count-requires c κs = search needs
+
+mul-n : tie.Need-mul-n
+mul-n c = search needs
+
+array-share-prefix-bits : tie.Need-array-share-prefix-bits
+array-share-prefix-bits c = search needs
+
+slice-aggregate-write-symbol : tie.Need-slice-aggregate-write-symbol
+slice-aggregate-write-symbol c = ap (λ (n : ℕ). 1000 * n) (c .before .slot-count .ensures .0) ∙ sym (lent (c .before) .long)
+
+write-symbol-requires : tie.Need-write-symbol-requires
+write-symbol-requires c κs =
+    let b = c .before .before .before in
+    let ok = passed (b .before .before .before .before) in
+    (ranges _ (ok .range) .mode, omega arith, lent b .long, lent b .bits, ok .firsts-long, ok .seconds-long)
+
+same-length : tie.Need-same-length
+same-length c = search needs
+
+same-length-2 : tie.Need-same-length-2
+same-length-2 c = search needs
+
+returns-3 : tie.Need-returns-3
+returns-3 c =
+    let w = c .before .before .before .before in
+    let b = w .before .before .before .before in
+    let e = b .before .before .before .before in
+    let a = e .before .before .before .before .before .args in
+    let one : a .symbol < symbols (a .p .mode) =
+    omega (arith, b .before .before .if2 .left, b .before .before .before .symbol-count .ensures .0) in
+    record {
+      answer = sym (rw (← e .before .early .ensures, e .if1 .left, lt-ltb _ _ one));
+      cells = λ _. symbol-cells (a .p) (a .«data» .now) _ (lent b .sent) (a .symbol) _ _ (w .write-symbol .ensures);
+      kept = λ n. absurd (n refl);
+    }
+
+pub send-symbol-spec : {M : Type 1} → statement M
+send-symbol-spec =
+    tie.close
+    (tie.spec
+    early-requires
+    returns
+    symbol-count-requires
+    returns-2
+    sent-bits-requires
+    slot-count-requires
+    mul-n
+    array-share-prefix-bits
+    slice-aggregate-write-symbol
+    write-symbol-requires
+    same-length
+    same-length-2
+    returns-3)
