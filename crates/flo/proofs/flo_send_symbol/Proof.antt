@@ -1,0 +1,36 @@
+use borrow.Author.Needs.{needs}
+use Rattle.flo.proofs.flo_send_symbol.Statement.{statement}
+use Rattle.flo.proofs.flo_send_symbol.Tie as tie
+use Rattle.flo.proofs.flo_send_symbol.Reads as reads
+use Rattle.flo.proofs.flo_send_symbol.Lts as lts
+use Rattle.profile.proofs.read.Reads as read-reads
+use Rattle.sending.proofs.send_symbol.Reads as send-symbol-reads
+
+-- src/lib.rt:24:9
+read-requires : tie.Need-read-requires
+read-requires c κs = search needs
+
+-- src/lib.rt:26:9
+returns : tie.Need-returns
+returns c = ?
+
+-- src/lib.rt:29:5
+send-symbol-requires : tie.Need-send-symbol-requires
+send-symbol-requires c κs = search needs
+
+-- src/lib.rt:20:1
+same-length : tie.Need-same-length
+same-length c = search needs
+
+-- src/lib.rt:20:1
+same-length-2 : tie.Need-same-length-2
+same-length-2 c = search needs
+
+-- src/lib.rt:20:1
+returns-2 : tie.Need-returns-2
+returns-2 c = ?
+
+pub flo-send-symbol-spec : {M : Type 1} → statement M
+flo-send-symbol-spec =
+    tie.close
+    (tie.spec read-requires returns send-symbol-requires same-length same-length-2 returns-2)
