@@ -11,19 +11,23 @@ use Rattle.rules.specs.Block.{SendRule, SendSymbolRule, ReceiveRule}
 use Rattle.rules.specs.declared.Outcome.{Outcome}
 use Rattle.rules.specs.declared.Profile.{Profile}
 
-pub record FloSend (profile d : List ℕ) (f s f' s' : List Float) (n : ℕ) : Type 0 where
-  pub unread : ¬ (reading profile .number ≡ 0) → (n ≡ reading profile .number) × (f' ≡ f) × (s' ≡ s)
-  pub read : reading profile .number ≡ 0 → SendRule (reading profile .profile) d f s f' s' n
+-- what a call does after reading: where that was refused, with the number, else with the profile that was read
+pub record AfterReading (profile : List ℕ) (Refused : ℕ → Type 0) (Rule : Profile → Type 0) : Type 0 where
+  pub unread : ¬ (reading profile .number ≡ 0) → Refused (reading profile .number)
+  pub read : reading profile .number ≡ 0 → Rule (reading profile .profile)
 
-pub record FloSendSymbol (profile d : List ℕ) (symbol : ℕ) (f s f' s' : List Float) (n : ℕ) : Type 0 where
-  pub unread : ¬ (reading profile .number ≡ 0) → (n ≡ reading profile .number) × (f' ≡ f) × (s' ≡ s)
-  pub read : reading profile .number ≡ 0 → SendSymbolRule (reading profile .profile) d symbol f s f' s' n
+abbrev pub FloSend : List ℕ → List ℕ → List Float → List Float → List Float → List Float → ℕ → Type 0
+FloSend profile d f s f' s' n =
+    AfterReading profile (λ m. (n ≡ m) × (f' ≡ f) × (s' ≡ s)) (λ P. SendRule P d f s f' s' n)
 
-pub record FloReceive (profile : List ℕ) (marks : ℕ) (f s : List Float) (before after : List ℕ) (lost : ℕ) (reasons : List ℕ) (n : ℕ) : Type 0 where
-  pub unread : ¬ (reading profile .number ≡ 0)
-      → (n ≡ reading profile .number) × (lost ≡ 0) × (reasons ≡ replicate 16 0) × (after ≡ before)
-  pub read : reading profile .number ≡ 0
-      → ReceiveRule (reading profile .profile) marks f s before after (record { number = n; lost = lost; reasons = reasons })
+abbrev pub FloSendSymbol : List ℕ → List ℕ → ℕ → List Float → List Float → List Float → List Float → ℕ → Type 0
+FloSendSymbol profile d symbol f s f' s' n =
+    AfterReading profile (λ m. (n ≡ m) × (f' ≡ f) × (s' ≡ s)) (λ P. SendSymbolRule P d symbol f s f' s' n)
+
+abbrev pub FloReceive : List ℕ → ℕ → List Float → List Float → List ℕ → List ℕ → ℕ → List ℕ → ℕ → Type 0
+FloReceive profile marks f s before after lost reasons n =
+    AfterReading profile (λ m. (n ≡ m) × (lost ≡ 0) × (reasons ≡ replicate 16 0) × (after ≡ before))
+    (λ P. ReceiveRule P marks f s before after (record { number = n; lost = lost; reasons = reasons }))
 
 pub record FloReadProfile (profile masks : List ℕ) (level : Float) (mode k : ℕ) (seeds : List ℕ) (n : ℕ) : Type 0 where
   pub number : n ≡ reading profile .number

@@ -1,4 +1,7 @@
 use borrow.Author.Needs.{needs}
+use mathlib.Core.Path.{refl, subst}
+use Rattle.rules.specs.Outer.{ParityMade}
+use Rattle.rules.specs.declared.Outcome.the-variants.{Done, BadK, BadLength, TooManyLost, NoCodeword}
 use Rattle.flo.proofs.flo_parity.Statement.{statement}
 use Rattle.flo.proofs.flo_parity.Tie as tie
 use Rattle.flo.proofs.flo_parity.Reads as reads
@@ -35,7 +38,7 @@ same-length c = search needs
 
 -- src/lib.rt:102:1
 returns : tie.Need-returns
-returns c = ?
+returns c = (Done, refl, subst (ParityMade _ _ _) (c .enum-told .given .1) (c .before .before .before .before .fill-parity .ensures))
 
 -- src/lib.rt:102:1
 same-length-2 : tie.Need-same-length-2
@@ -43,7 +46,7 @@ same-length-2 c = search needs
 
 -- src/lib.rt:102:1
 returns-2 : tie.Need-returns-2
-returns-2 c = ?
+returns-2 c = (BadK, refl, subst (ParityMade _ _ _) (c .enum-told2 .given .1) (c .before .before .before .before .fill-parity .ensures))
 
 -- src/lib.rt:102:1
 same-length-3 : tie.Need-same-length-3
@@ -51,7 +54,7 @@ same-length-3 c = search needs
 
 -- src/lib.rt:102:1
 returns-3 : tie.Need-returns-3
-returns-3 c = ?
+returns-3 c = (BadLength, refl, subst (ParityMade _ _ _) (c .enum-told3 .given .1) (c .before .before .before .before .fill-parity .ensures))
 
 -- src/lib.rt:102:1
 same-length-4 : tie.Need-same-length-4
@@ -59,7 +62,7 @@ same-length-4 c = search needs
 
 -- src/lib.rt:102:1
 returns-4 : tie.Need-returns-4
-returns-4 c = ?
+returns-4 c = (TooManyLost, refl, subst (ParityMade _ _ _) (c .enum-told4 .given .1) (c .before .before .before .before .fill-parity .ensures))
 
 -- src/lib.rt:102:1
 same-length-5 : tie.Need-same-length-5
@@ -67,7 +70,7 @@ same-length-5 c = search needs
 
 -- src/lib.rt:102:1
 returns-5 : tie.Need-returns-5
-returns-5 c = ?
+returns-5 c = (NoCodeword, refl, subst (ParityMade _ _ _) (c .enum-told5 .given .1) (c .before .before .before .before .fill-parity .ensures))
 
 pub flo-parity-spec : {M : Type 1} → statement M
 flo-parity-spec =

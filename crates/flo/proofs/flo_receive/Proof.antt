@@ -1,4 +1,6 @@
 use borrow.Author.Needs.{needs}
+use mathlib.Core.Path.{refl}
+use Rattle.flo.proofs.Reading.{not-read, was-read}
 use Rattle.flo.proofs.flo_receive.Statement.{statement}
 use Rattle.flo.proofs.flo_receive.Tie as tie
 use Rattle.flo.proofs.flo_receive.Reads as reads
@@ -12,7 +14,7 @@ read-requires c κs = search needs
 
 -- src/lib.rt:48:9
 returns : tie.Need-returns
-returns c = ?
+returns c = let a = c .before .before .before .read in not-read _ _ (a .result) (a .ensures) (c .before .if1 .taken) (refl, refl, refl, refl)
 
 -- src/lib.rt:51:9
 receive-requires : tie.Need-receive-requires
@@ -24,7 +26,7 @@ same-length c = search needs
 
 -- src/lib.rt:32:1
 returns-2 : tie.Need-returns-2
-returns-2 c = ?
+returns-2 c = let a = c .before .before .before .before .before .before .before .before .read in was-read _ _ (a .result) (a .ensures) (c .before .before .before .before .before .before .if1 .left) (c .before .before .before .receive .ensures)
 
 pub flo-receive-spec : {M : Type 1} → statement M
 flo-receive-spec =

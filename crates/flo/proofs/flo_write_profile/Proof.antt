@@ -1,4 +1,5 @@
 use borrow.Author.Needs.{needs}
+use mathlib.Core.Path.{sym}
 use Rattle.flo.proofs.flo_write_profile.Statement.{statement}
 use Rattle.flo.proofs.flo_write_profile.Tie as tie
 use Rattle.flo.proofs.flo_write_profile.Reads as reads
@@ -11,7 +12,7 @@ write-requires c κs = search needs
 
 -- src/lib.rt:81:1
 returns : tie.Need-returns
-returns c = ?
+returns c = record { answer = sym (c .before .write .ensures) }
 
 pub flo-write-profile-spec : {M : Type 1} → statement M
 flo-write-profile-spec = tie.close (tie.spec write-requires returns)

@@ -1,0 +1,23 @@
+-- What a call owes after reading the profile, from what the reading answered.
+use mathlib.Core.Path.{_≡_, sym, ap, subst, _∙_}
+use mathlib.Core.List.{List}
+use Prim.Native.Nat.{ℕ}
+use Rattle.rules.specs.Profile.{reading}
+use Rattle.rules.specs.declared.Profile.{Profile}
+use Rattle.rules.specs.declared.Reading.{Reading}
+use Rattle.flo.specs.Calls.{AfterReading}
+
+module _ {profile : List ℕ} (Refused : ℕ → Type 0) (Rule : Profile → Type 0) (a : Reading) (e : a ≡ reading profile) where
+  pub not-read : ¬ (a .number ≡ 0) → Refused (a .number) → AfterReading profile Refused Rule
+  not-read ne x =
+      record {
+        unread = λ _. subst Refused (ap (λ (r : Reading). r .number) e) x;
+        read = λ z. absurd (ne (ap (λ (r : Reading). r .number) e ∙ z));
+      }
+
+  pub was-read : a .number ≡ 0 → Rule (a .profile) → AfterReading profile Refused Rule
+  was-read z x =
+      record {
+        unread = λ ne. absurd (ne (sym (ap (λ (r : Reading). r .number) e) ∙ z));
+        read = λ _. subst Rule (ap (λ (r : Reading). r .profile) e) x;
+      }
