@@ -68,9 +68,9 @@ symbol-of-grid P d symbol f s f' s' F S F' S' i one all lt =
     let x : i % 4096 ≡ (4096 * symbol + i) % 4096 = omega arith in
     let at : 4096 * symbol + i < 4096 * symbols (P .mode) = omega (arith, in-grid (symbols (P .mode)) (early P (length d) (length f) (length s) 4096) symbol (one .answer)) in
     let cell : sentCell P d (symbol + i / 4096) (i % 4096) ≡ sentCell P d (0 + (4096 * symbol + i) / 4096) ((4096 * symbol + i) % 4096)
-        = ap₂ (sentCell P d) y x in
-    ( c .firsts-are i (omega arith) ∙ ap firstPart cell ∙ sym (g .firsts-are (4096 * symbol + i) at)
-    , c .seconds-are i (omega arith) ∙ ap secondPart cell ∙ sym (g .seconds-are (4096 * symbol + i) at)
+    = ap₂ (sentCell P d) y x in (
+      c .firsts-are i (omega arith) ∙ ap firstPart cell ∙ sym (g .firsts-are (4096 * symbol + i) at),
+      c .seconds-are i (omega arith) ∙ ap secondPart cell ∙ sym (g .seconds-are (4096 * symbol + i) at),
     )
 
 accepts : (P : Profile) (marks : ℕ) (f s : List Float) (before after : List ℕ) (a : Receipt)

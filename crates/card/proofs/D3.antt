@@ -24,7 +24,8 @@ use Rattle.outer.proofs.Solve.{unique}
 use Rattle.turbo.proofs.Accepted.{accepted-coded, coded-accepted, accepted-bytes}
 use Rattle.card.proofs.Grid.{grid-heard}
 use Rattle.card.proofs.Few.{few-same}
-use Rattle.card.proofs.Mask.{mask-lt, mask-kept}
+use Rattle.receiving.proofs.Mask.{mask-lt}
+use Rattle.card.proofs.Mask.{mask-kept}
 use Rattle.card.proofs.Differ.{find}
 use Rattle.card.proofs.Place.{mode-of, k-of, judges, reason-verdict, reason-unmarked, part, reasonIn, part-place, accepted, sent-place}
 

@@ -18,7 +18,7 @@ use Rattle.rules.specs.declared.Profile.{Profile}
 use Rattle.rules.specs.declared.Receipt.{Receipt}
 use Rattle.outer.proofs.Roots.{by-k, rate as outer-rate}
 use Rattle.outer.proofs.Solve.{unique}
-use Rattle.card.proofs.Mask.{mask-lt}
+use Rattle.receiving.proofs.Mask.{mask-lt}
 use Rattle.card.proofs.Place.{k-of}
 
 -- where no early number fits, the profile is in range
@@ -65,7 +65,7 @@ module _ (P : Profile) (marks : ℕ) (before : List ℕ) where
   one-judgement v after after' a b t x y =
       let kept : ℕ → ℕ → ℕ = (λ p. byteOf (decidedData (P .mode) (packetPart (P .mode) v p))) in
       let other : Delivered (P .k) (a .lost) kept before after' (b .number)
-          = subst (λ (l : ℕ). Delivered (P .k) l kept before after' (b .number)) (sym lost) (y .delivered) in
+      = subst (λ (l : ℕ). Delivered (P .k) l kept before after' (b .number)) (sym lost) (y .delivered) in
       let out = one-delivery (k-of P t) fits (x .delivered) other in
       ((λ i. record { number = out .0 i; lost = lost i; reasons = reasons i }), out .1)
     where

@@ -6,7 +6,12 @@ use rules::Outcome;
 use rules::Profile;
 
 #[no_mangle]
-pub extern "C" fn flo_send(profile: &[u8], data: &[u8], firsts: &mut [f32], seconds: &mut [f32]) -> u32
+pub extern "C" fn flo_send(
+    profile: &[u8],
+    data: &[u8],
+    firsts: &mut [f32],
+    seconds: &mut [f32],
+) -> u32
     ensures { λ r. ⌜ FloSend (now (profile .entry)) (now («data» .entry)) (now (firsts .entry)) (now (seconds .entry)) (now (firsts .exit)) (now (seconds .exit)) r ⌝ }
 {
     let a = profile::read(profile);
@@ -18,7 +23,13 @@ pub extern "C" fn flo_send(profile: &[u8], data: &[u8], firsts: &mut [f32], seco
 }
 
 #[no_mangle]
-pub extern "C" fn flo_send_symbol(profile: &[u8], data: &[u8], symbol: usize, firsts: &mut [f32], seconds: &mut [f32]) -> u32
+pub extern "C" fn flo_send_symbol(
+    profile: &[u8],
+    data: &[u8],
+    symbol: usize,
+    firsts: &mut [f32],
+    seconds: &mut [f32],
+) -> u32
     ensures { λ r. ⌜ FloSendSymbol (now (profile .entry)) (now («data» .entry)) symbol (now (firsts .entry)) (now (seconds .entry)) (now (firsts .exit)) (now (seconds .exit)) r ⌝ }
 {
     let a = profile::read(profile);
@@ -92,7 +103,13 @@ pub extern "C" fn flo_write_profile(
 {
     let m = *masks;
     let s = *seeds;
-    let a = profile::write(Profile { masks: m, level, mode, k, seeds: s });
+    let a = profile::write(Profile {
+        masks: m,
+        level,
+        mode,
+        k,
+        seeds: s,
+    });
     let bytes = a.bytes;
     *profile = bytes;
     *count = a.count;

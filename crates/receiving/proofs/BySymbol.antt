@@ -1,11 +1,11 @@
 -- Symbol by symbol the answer is the same as for the whole grid: hearing a symbol adds its own bits, and once all are heard, concluding is receiving.
-use mathlib.Core.Path.{_≡_, refl, sym, _∙_, ap, subst}
+use mathlib.Core.Path.{_≡_, refl, sym, _∙_, ap}
 use mathlib.Core.Bool.{Bool}
 use mathlib.Core.List.{List}
 use Prim.Native.Nat.{ℕ, _+_, _*_, _/_, _%_, _<_}
 use native.Mathlib.Decide.{ℕ-discrete}
 use native.Mathlib.Omega.{arith}
-use lib.Dec.{T, eqb}
+use lib.Dec.{T}
 use lib.Ieee.{Float}
 use lib.ListN.{length}
 use borrow.Author.Tests.{eq-eqb, ne-eqb}
@@ -18,45 +18,46 @@ use Rattle.cells.specs.Symbol.{heardIn, decidedIn}
 use Rattle.cells.proofs.Heard.{HeardTo, symbolPart, decided-in, heard-none, heard-all}
 use Rattle.block.proofs.Ranges.{ranges}
 use Rattle.block.proofs.Passed.{right}
-use Rattle.receiving.proofs.Judgement.{block-bits, judged-same}
+use Rattle.receiving.proofs.Judgement.{judged-same}
 use Rattle.receiving.proofs.Numbers.{concluding, early-whole}
 
 -- every bit of the block is as the grid's cells decide
 abbrev pub AllHeard : ℕ → List Float → List Float → List ℕ → Type 0
 AllHeard m f s bits = (g : ℕ) → g < slotBits m * slots m → row bits g ≡ heard f s (g / slotBits m) (g % slotBits m)
 
-module _ (P : Profile) (f s : List Float) where
-  -- ---- hearing
+-- what hearing a symbol leaves, bit by bit
+heard-bit : (P : Profile) (f s : List Float) (y : ℕ) (before after : List ℕ) (n : ℕ) → HearRule P y f s before after n → n ≡ 0
+    → (g : ℕ)
+    → g < slotBits (P .mode) * slots (P .mode)
+    → row after g ≡ decidedIn (P .mode) y f s before g
+heard-bit P f s y before after n h z g lt = go (ℕ-discrete (symbolOf t) y)
+  where
+    t : ℕ
+    t = g / slotBits (P .mode)
 
-  -- what hearing a symbol leaves, bit by bit
-  heard-bit : (y : ℕ) (before after : List ℕ) → HearRule P y f s before after 0 → (g : ℕ) → g < slotBits (P .mode) * slots (P .mode)
-      → row after g ≡ decidedIn (P .mode) y f s before g
-  heard-bit y before after h g lt = go (ℕ-discrete (symbolOf t) y)
-    where
-      t : ℕ
-      t = g / slotBits (P .mode)
+    i : ℕ
+    i = g % slotBits (P .mode)
 
-      i : ℕ
-      i = g % slotBits (P .mode)
+    place : slotBits (P .mode) * t + i ≡ g
+    place = omega arith
 
-      place : slotBits (P .mode) * t + i ≡ g
-      place = omega arith
+    by : Bool → ℕ
+    by b = pick b (heardIn (P .mode) f s g) (row before g)
 
-      go : Dec (symbolOf t ≡ y) → row after g ≡ decidedIn (P .mode) y f s before g
-      go (yes e) =
-          ap (row after) (sym place) ∙ h .own refl t i (omega arith) (omega arith) e
-          ∙ sym (ap (λ (b : Bool). pick b (heardIn (P .mode) f s g) (row before g)) (eq-eqb (symbolOf t) y e))
-      go (no ne) =
-          ap (row after) (sym place) ∙ h .others refl t i (omega arith) (omega arith) ne ∙ ap (row before) place
-          ∙ sym (ap (λ (b : Bool). pick b (heardIn (P .mode) f s g) (row before g)) (ne-eqb (symbolOf t) y ne))
+    go : Dec (symbolOf t ≡ y) → row after g ≡ decidedIn (P .mode) y f s before g
+    go (yes e) = ap (row after) (sym place) ∙ h .own z t i (omega arith) (omega arith) e ∙ sym (ap by (eq-eqb (symbolOf t) y e))
+    go (no ne) =
+        ap (row after) (sym place) ∙ h .others z t i (omega arith) (omega arith) ne ∙ ap (row before) place
+        ∙ sym (ap by (ne-eqb (symbolOf t) y ne))
 
--- one symbol more
-pub hear-next : (P : Profile) (f s : List Float) (y : ℕ) (before after : List ℕ)
-    → HearRule P y (symbolPart y f) (symbolPart y s) before after 0
+-- hearing symbol y from its part of the grid: one symbol more
+pub hear-next : (P : Profile) (f s : List Float) (y : ℕ) (before after : List ℕ) (n : ℕ)
+    → HearRule P y (symbolPart y f) (symbolPart y s) before after n
+    → n ≡ 0
     → HeardTo (P .mode) y f s before
     → HeardTo (P .mode) (y + 1) f s after
-hear-next P f s y before after h so g lt k =
-    heard-bit P (symbolPart y f) (symbolPart y s) y before after h g lt ∙ decided-in (P .mode) f s y before so g lt k
+hear-next P f s y before after n h z so g lt k =
+    heard-bit P (symbolPart y f) (symbolPart y s) y before after n h z g lt ∙ decided-in (P .mode) f s y before so g lt k
 
 -- the symbols before y, heard one after the other into any bits
 pub data InTurn (P : Profile) (f s : List Float) : ℕ → List ℕ → Type 0 where
@@ -68,7 +69,7 @@ pub data InTurn (P : Profile) (f s : List Float) : ℕ → List ℕ → Type 0 w
 
 in-turn : (P : Profile) (f s : List Float) {y : ℕ} {bits : List ℕ} → InTurn P f s y bits → HeardTo (P .mode) y f s bits
 in-turn P f s (none bits) = heard-none (P .mode) f s bits
-in-turn P f s (next y before after t h) = hear-next P f s y before after h (in-turn P f s t)
+in-turn P f s (next y before after t h) = hear-next P f s y before after 0 h refl (in-turn P f s t)
 
 module _ (P : Profile) (marks : ℕ) (f s : List Float) (bits before after : List ℕ) (a : Receipt) where
   pub heard-judged : T (isMode (P .mode)) → AllHeard (P .mode) f s bits → Judged P marks (understood P bits) before after a
@@ -76,10 +77,9 @@ module _ (P : Profile) (marks : ℕ) (f s : List Float) (bits before after : Lis
   unfolding decided
   heard-judged mode all =
       judged-same P marks mode (understood P bits) (decided P f s)
-      (λ g lt. ap (λ (b : ℕ). unscrambled b (scrambler P (g / slotBits (P .mode)) (g % slotBits (P .mode))))
-      (all g (subst (λ (n : ℕ). g < n) (block-bits (P .mode)) lt)))
+      (λ g lt. ap (λ (b : ℕ). unscrambled b (scrambler P (g / slotBits (P .mode)) (g % slotBits (P .mode)))) (all g lt))
 
-  -- the theorem
+  -- concluding what was heard is receiving the grid
   pub by-symbol : length f ≡ 4096 * symbols (P .mode) → length s ≡ 4096 * symbols (P .mode) → AllHeard (P .mode) f s bits
       → ConcludeRule P marks bits before after a → ReceiveRule P marks f s before after a
   by-symbol lf ls all c =
@@ -93,7 +93,7 @@ module _ (P : Profile) (marks : ℕ) (f s : List Float) (bits before after : Lis
       whole : early P (length before) (length f) (length s) (4096 * symbols (P .mode)) ≡ concluding P (length before)
       whole = early-whole P (length before) (length f) (length s) (4096 * symbols (P .mode)) lf ls
 
-  -- hearing all symbols in turn, and concluding, is receiving
+  -- so is hearing all symbols in turn, and concluding
   pub in-turn-received : length f ≡ 4096 * symbols (P .mode) → length s ≡ 4096 * symbols (P .mode) → InTurn P f s (symbols (P .mode)) bits
       → ConcludeRule P marks bits before after a → ReceiveRule P marks f s before after a
   in-turn-received lf ls t = by-symbol lf ls (heard-all (P .mode) f s bits (in-turn P f s t))

@@ -1,14 +1,14 @@
--- What is judged goes by the block's own bits alone; and what is sorted and delivered is what a block is judged by.
-use mathlib.Core.Path.{_≡_, refl, sym, _∙_, ap, ap₂, subst}
+-- What is judged goes by the block's own bits alone; and the packets' judgements, with what the outer code makes of them, are the block's.
+use mathlib.Core.Path.{_≡_, refl, sym, _∙_, ap, ap₂}
 use mathlib.Core.Bool.{Bool, true, false}
 use mathlib.Core.List.{List}
-use Prim.Native.Nat.{ℕ, _+_, _*_, _/_, _%_, _^_, _<_}
+use Prim.Native.Nat.{ℕ, _+_, _*_, _/_, _^_, _<_}
 use native.Mathlib.Omega.{arith}
 use lib.Dec.{T, eqb, ltb}
 use lib.ListN.{length, set, replicate}
 use borrow.Author.Tests.{eq-eqb}
 use Rattle.rules.specs.Bits.{pick, row}
-use Rattle.rules.specs.Outer.{Codeword, Agree, column, marked}
+use Rattle.rules.specs.Outer.{column, marked}
 use Rattle.rules.specs.Points.{doubtful}
 use Rattle.rules.specs.Slots.{isMode, packetBits, slotBits, slots, coded}
 use Rattle.rules.specs.Block.{packetPart, decidedData, byteOf, verdict, reason, understood, Delivered, Judged}
@@ -23,11 +23,11 @@ use Rattle.turbo.proofs.Modes.{sent-lt, coded-same}
 use Rattle.turbo.proofs.Accepted.{verdict-by}
 use Rattle.laws.specs.Parts.{putPart, part-number, part-place, part-within, holds-part}
 use Rattle.block.specs.Steps.{scrambledRow}
-use Rattle.receiving.specs.Steps.{keptByte, reasonAt, keptAt, Weighed, Sorted}
+use Rattle.receiving.specs.Steps.{keptByte, reasonAt, keptAt, Weighed, WeighedTo}
 use Rattle.receiving.proofs.Mask.{mask-lt, mask-next, mask-same, mask-kept}
 
 -- the bits of a block are those of its 16 packets, and of its slots
-pub block-bits : (m : ℕ) → packetBits m * 16 ≡ slotBits m * slots m
+block-bits : (m : ℕ) → packetBits m * 16 ≡ slotBits m * slots m
 block-bits m = go (eqb m 0)
   where
     go : (b : Bool) → pick b 3000 2000 * 16 ≡ 1000 * (16 * pick b 3000 2000 / 1000)
@@ -44,7 +44,8 @@ module _ (m : ℕ) (mode : T (isMode m)) (v w : ℕ → ℕ) (same : (i : ℕ) �
   verdict-same : verdict m v ≡ verdict m w
   verdict-same =
       sym (verdict-by m v refl refl refl refl)
-      ∙ verdict-by m w (every-same (packetBits m) (λ i. ltb (w i) doubtful) (λ i. ltb (v i) doubtful) (λ i lt. ap (λ (n : ℕ). ltb n doubtful) (sym (same i lt))))
+      ∙ verdict-by m w
+      (every-same (packetBits m) (λ i. ltb (w i) doubtful) (λ i. ltb (v i) doubtful) (λ i lt. ap (λ (n : ℕ). ltb n doubtful) (sym (same i lt))))
       (sym (check-same (decidedData m v) (decidedData m w) data-same)) (sym (reserved-same (decidedData m v) (decidedData m w) data-same))
       (every-same (packetBits m) (λ i. eqb (w i) (coded m (decidedData m w) i)) (λ i. eqb (v i) (coded m (decidedData m v) i))
       (λ i lt. sym (ap₂ eqb (same i lt) (coded-same m mode (decidedData m v) (decidedData m w) data-same i lt))))
@@ -71,15 +72,15 @@ kept-at m marks p j v l =
 
 -- ---- packet after packet
 
-pub sorted-none : (m marks : ℕ) (v : ℕ → ℕ) → Sorted 0 m marks v 0 (replicate 16 0) (replicate 1952 0)
-sorted-none m marks v =
+pub weighed-none : (m marks : ℕ) (v : ℕ → ℕ) → WeighedTo 0 m marks v 0 (replicate 16 0) (replicate 1952 0)
+weighed-none m marks v =
     record { reasons-are = holds-new 16 (reasonAt m marks v); lost-is = refl; block-is = holds-new 1952 (keptAt m marks v) }
 
 -- there is room for the next packet's bit
-pub sorted-lt : (p m marks : ℕ) (v : ℕ → ℕ) {lost : ℕ} {reasons block : List ℕ} → Sorted p m marks v lost reasons block → lost < 2 ^ p
-sorted-lt p m marks v s = rw (s .lost-is) (mask-lt (reasonAt m marks v) p)
+pub weighed-lt : (p m marks : ℕ) (v : ℕ → ℕ) {lost : ℕ} {reasons block : List ℕ} → WeighedTo p m marks v lost reasons block → lost < 2 ^ p
+weighed-lt p m marks v s = rw (s .lost-is) (mask-lt (reasonAt m marks v) p)
 
-pub sorted-next : (m marks p : ℕ) (v u : ℕ → ℕ) {lost : ℕ} {reasons block : List ℕ} (a : Judgement) (lost' e : ℕ) (bytes : List ℕ)
+pub weighed-next : (m marks p : ℕ) (v u : ℕ → ℕ) {lost : ℕ} {reasons block : List ℕ} (a : Judgement) (lost' e : ℕ) (bytes : List ℕ)
     → T (isMode m)
     → p < 16
     → ((i : ℕ) → i < packetBits m → u i ≡ packetPart m v p i)
@@ -87,9 +88,9 @@ pub sorted-next : (m marks p : ℕ) (v u : ℕ → ℕ) {lost : ℕ} {reasons bl
     → lost' ≡ lost + pick (eqb (a .reason) 0) 0 (2 ^ p)
     → e ≡ 122 * p + 122
     → bytes ≡ a .bytes
-    → Sorted p m marks v lost reasons block
-    → Sorted (p + 1) m marks v lost' (set reasons p (a .reason)) (putPart (122 * p) e block bytes)
-sorted-next m marks p v u a lost' e bytes mode lt same w more end from s =
+    → WeighedTo p m marks v lost reasons block
+    → WeighedTo (p + 1) m marks v lost' (set reasons p (a .reason)) (putPart (122 * p) e block bytes)
+weighed-next m marks p v u a lost' e bytes mode lt same w more end from s =
     record {
       reasons-are = holds-next (reasonAt m marks v) (λ k. 0) 0 p (a .reason) lt is (s .reasons-are);
       lost-is = more ∙ ap₂ (λ (n k : ℕ). n + pick (eqb k 0) 0 (2 ^ p)) (s .lost-is) is ∙ sym (mask-next (reasonAt m marks v) p);
@@ -108,29 +109,39 @@ sorted-next m marks p v u a lost' e bytes mode lt same w more end from s =
 
 -- ---- the whole block
 
-part-lt : (n p i : ℕ) → p < 16 → i < n → n * p + i < n * 16
-part-lt n p i q h = omega (arith, part-within n p 16 q)
+-- bit i of packet p is one of the block's
+part-lt : (m p i : ℕ) → p < 16 → i < packetBits m → packetBits m * p + i < slotBits m * slots m
+part-lt m p i q h = omega (arith, part-within (packetBits m) p 16 q, block-bits m)
 
 module _ (P : Profile) (marks : ℕ) {before after : List ℕ} {a : Receipt} where
   -- judging goes by the block's own bits
-  pub judged-same : T (isMode (P .mode)) → (v w : ℕ → ℕ) → ((g : ℕ) → g < packetBits (P .mode) * 16 → v g ≡ w g) → Judged P marks v before after a → Judged P marks w before after a
+  pub judged-same : T (isMode (P .mode)) → (v w : ℕ → ℕ)
+      → ((g : ℕ) → g < slotBits (P .mode) * slots (P .mode) → v g ≡ w g)
+      → Judged P marks v before after a
+      → Judged P marks w before after a
   judged-same mode v w same h =
       record {
         reasons-long = h .reasons-long;
-        reasons-are = λ p q. h .reasons-are p q ∙ reason-same (P .mode) mode (packetPart (P .mode) v p) (packetPart (P .mode) w p) (here p q) (marked marks p);
+        reasons-are = λ p q. h .reasons-are p q ∙ reason-same (P .mode) mode (old p) (new p) (here p q) (marked marks p);
         lost-is = h .lost-is;
-        delivered = delivered-same (λ p j q l z. bytes-same (P .mode) mode (packetPart (P .mode) v p) (packetPart (P .mode) w p) (here p q) j l) (h .delivered);
+        delivered = delivered-same (λ p j q l z. bytes-same (P .mode) mode (old p) (new p) (here p q) j l) (h .delivered);
       }
     where
-      here : (p : ℕ) → p < 16 → (i : ℕ) → i < packetBits (P .mode) → packetPart (P .mode) v p i ≡ packetPart (P .mode) w p i
-      here p q i lt = same (packetBits (P .mode) * p + i) (part-lt (packetBits (P .mode)) p i q lt)
+      old : ℕ → ℕ → ℕ
+      old = packetPart (P .mode) v
+
+      new : ℕ → ℕ → ℕ
+      new = packetPart (P .mode) w
+
+      here : (p : ℕ) → p < 16 → (i : ℕ) → i < packetBits (P .mode) → old p i ≡ new p i
+      here p q i lt = same (packetBits (P .mode) * p + i) (part-lt (P .mode) p i q lt)
 
   -- the reasons, the lost mask and the block of accepted packets make the judgement, with what the outer code makes of them
-  pub sorted-judged : (v : ℕ → ℕ) (block : List ℕ)
-      → Sorted 16 (P .mode) marks v (a .lost) (a .reasons) block
+  pub weighed-judged : (v : ℕ → ℕ) (block : List ℕ)
+      → WeighedTo 16 (P .mode) marks v (a .lost) (a .reasons) block
       → Delivered (P .k) (a .lost) (λ p j. column block j p) before after (a .number)
       → Judged P marks v before after a
-  sorted-judged v block s d =
+  weighed-judged v block s d =
       record {
         reasons-long = s .reasons-are .long;
         reasons-are = reasons;
@@ -138,15 +149,20 @@ module _ (P : Profile) (marks : ℕ) {before after : List ℕ} {a : Receipt} whe
         delivered = delivered-same bytes d;
       }
     where
-      reasons : (p : ℕ) → p < 16 → row (a .reasons) p ≡ reasonAt (P .mode) marks v p
-      reasons p q = s .reasons-are .each p q ∙ upTo-below (reasonAt (P .mode) marks v) (λ k. 0) 16 p q
+      r : ℕ → ℕ
+      r = reasonAt (P .mode) marks v
 
-      bytes : (p j : ℕ) → p < 16 → j < 122 → marked (a .lost) p ≡ 0 → column block j p ≡ byteOf (decidedData (P .mode) (packetPart (P .mode) v p)) j
+      byte : ℕ → ℕ → ℕ
+      byte p = byteOf (decidedData (P .mode) (packetPart (P .mode) v p))
+
+      reasons : (p : ℕ) → p < 16 → row (a .reasons) p ≡ r p
+      reasons p q = s .reasons-are .each p q ∙ upTo-below r (λ k. 0) 16 p q
+
+      bytes : (p j : ℕ) → p < 16 → j < 122 → marked (a .lost) p ≡ 0 → column block j p ≡ byte p j
       bytes p j q l z =
-          let zero : reasonAt (P .mode) marks v p ≡ 0 = mask-kept (reasonAt (P .mode) marks v) 16 p q (ap (λ (n : ℕ). marked n p) (sym (s .lost-is)) ∙ z) in
+          let none : r p ≡ 0 = mask-kept r 16 p q (ap (λ (n : ℕ). marked n p) (sym (s .lost-is)) ∙ z) in
           s .block-is .each (122 * p + j) (omega arith) ∙ upTo-below (keptAt (P .mode) marks v) (λ g. 0) 1952 (122 * p + j) (omega arith)
-          ∙ kept-at (P .mode) marks p j v l
-          ∙ ap (λ (b : Bool). pick b (byteOf (decidedData (P .mode) (packetPart (P .mode) v p)) j) 0) (eq-eqb (reasonAt (P .mode) marks v p) 0 zero)
+          ∙ kept-at (P .mode) marks p j v l ∙ ap (λ (b : Bool). pick b (byte p j) 0) (eq-eqb (r p) 0 none)
 
   -- the bits that were judged are those that came, unscrambled
   pub scrambled-judged : T (isMode (P .mode)) → (bits plain : List ℕ)
@@ -155,6 +171,5 @@ module _ (P : Profile) (marks : ℕ) {before after : List ℕ} {a : Receipt} whe
       → Judged P marks (understood P bits) before after a
   scrambled-judged mode bits plain h =
       judged-same mode (row plain) (understood P bits)
-      (λ g lt.
-      let lt' : g < slotBits (P .mode) * slots (P .mode) = subst (λ (n : ℕ). g < n) (block-bits (P .mode)) lt in
-      h .each g (omega (arith, slots-most (P .mode))) ∙ upTo-below (understood P bits) (row bits) (slotBits (P .mode) * slots (P .mode)) g lt')
+      (λ g lt. h .each g (omega (arith, slots-most (P .mode)))
+      ∙ upTo-below (understood P bits) (row bits) (slotBits (P .mode) * slots (P .mode)) g lt)

@@ -6,7 +6,7 @@ use native.Mathlib.Decide.{ℕ-discrete}
 use native.Mathlib.Numerals.{add-one}
 use native.Mathlib.Omega.{arith}
 use lib.Dec.{eqb}
-use lib.Pow.{pow-pos, high, low, field, mod-mod-pow}
+use lib.Pow.{high, low, field, mod-mod-pow}
 use borrow.Author.Tests.{eqb-true}
 use Rattle.rules.specs.Bits.{pick}
 use Rattle.rules.specs.Outer.{marked}

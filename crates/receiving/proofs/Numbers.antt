@@ -1,10 +1,9 @@
 -- The number that comes before any judgement, and the rules of receiving and concluding by it.
 use mathlib.Core.Path.{_≡_, refl, sym, _∙_, ap}
-use mathlib.Core.Bool.{Bool, true, false, not, _&&_}
+use mathlib.Core.Bool.{Bool, true, false, not}
 use mathlib.Core.List.{List}
 use Prim.Native.Nat.{ℕ, _*_}
-use native.Mathlib.Omega.{arith}
-use lib.Dec.{T, eqb, eqb→eq}
+use lib.Dec.{T, eqb}
 use lib.Ieee.{Float}
 use lib.Ieee.Fits.{eq→eqb}
 use lib.ListN.{length}

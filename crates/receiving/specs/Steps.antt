@@ -27,7 +27,7 @@ abbrev pub keptAt : ℕ → ℕ → (ℕ → ℕ) → ℕ → ℕ
 keptAt m marks v g = keptByte m (marked marks (g / 122)) (packetPart m v (g / 122)) (g % 122)
 
 -- the first n packets are judged
-pub record Sorted (n m marks : ℕ) (v : ℕ → ℕ) (lost : ℕ) (reasons block : List ℕ) : Type 0 where
+pub record WeighedTo (n m marks : ℕ) (v : ℕ → ℕ) (lost : ℕ) (reasons block : List ℕ) : Type 0 where
   pub reasons-are : Holds 0 16 (upTo n (reasonAt m marks v) (λ p. 0)) reasons
   pub lost-is : lost ≡ lostMask n (reasonAt m marks v)
   pub block-is : Holds 0 1952 (upTo (122 * n) (keptAt m marks v) (λ g. 0)) block

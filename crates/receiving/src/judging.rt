@@ -1,6 +1,6 @@
 // Judging a block's bits: unscrambling, the packets one by one, and what the outer code makes of them.
 ghost use mathlib.Core.Path.{_≡_};
-ghost use Prim.Native.Nat.{ℕ, _+_, _*_, _<_, _^_};
+ghost use Prim.Native.Nat.{_+_, _*_, _<_, _^_};
 ghost use lib.Dec.{T, eqb};
 ghost use lib.ListN.{length};
 ghost use Rattle.rules.specs.Bits.{pick, row};
@@ -11,7 +11,7 @@ ghost use Rattle.rules.specs.Slots.{isMode, packetBits, slotBits, slots};
 ghost use Rattle.rules.specs.Profile.{inRange};
 ghost use Rattle.rules.specs.Block.{understood, Delivered, Judged};
 ghost use Rattle.laws.specs.Holds.{Holds};
-ghost use Rattle.receiving.specs.Steps.{Weighed, Sorted};
+ghost use Rattle.receiving.specs.Steps.{Weighed, WeighedTo};
 use block::packet_bits;
 use block::scrambled;
 use rules::Judgement;
@@ -19,11 +19,11 @@ use rules::Outcome;
 use rules::Profile;
 use rules::Receipt;
 
-// The reasons, the lost mask, and the block of what is accepted.
-pub struct Verdicts {
-    pub lost: u16,
-    pub reasons: [u8; 16],
-    pub block: [u8; 1952],
+// The lost mask, the reasons, and the block of what is accepted, with zeros for what is lost.
+struct Verdicts {
+    lost: u16,
+    reasons: [u8; 16],
+    block: [u8; 1952],
 }
 
 // Bit p of a mask.
@@ -69,9 +69,9 @@ fn copy(from: &[u8], to: &mut [u8])
 }
 
 // All packets' judgements.
-fn sort(mode: u8, marks: u16, bits: [u8; 48000]) -> Verdicts
+fn weigh_all(mode: u8, marks: u16, bits: [u8; 48000]) -> Verdicts
     requires { ⌜ T (isMode mode) ⌝ }
-    ensures { λ r. ⌜ Sorted 16 mode marks (row bits) (r .lost) (r .reasons) (r .block) ⌝ }
+    ensures { λ r. ⌜ WeighedTo 16 mode marks (row bits) (r .lost) (r .reasons) (r .block) ⌝ }
 {
     let addresses = interleaver::addresses();
     let n = packet_bits(mode);
@@ -94,7 +94,7 @@ fn sort(mode: u8, marks: u16, bits: [u8; 48000]) -> Verdicts
     }
 }
 
-// Restores the lost packets and writes the data, or answers why not.
+// Restores the lost packets and writes the data, or answers why not. The last two outcomes can't come: k and the block's length are right.
 fn deliver(k: u8, lost: u16, block: [u8; 1952], data: &mut [u8]) -> u32
     requires { ⌜ T (isK k) × (length (now «data») ≡ 122 * k) ⌝ }
     ensures { λ r. ⌜ Delivered k lost (λ p j. column block j p) (now («data» .entry)) (now («data» .exit)) r ⌝ }
@@ -118,7 +118,7 @@ pub fn judge(p: Profile, marks: u16, bits: [u8; 48000], data: &mut [u8]) -> Rece
     requires { ⌜ T (inRange p) × (length (now «data») ≡ 122 * p .k) ⌝ }
     ensures { λ r. ⌜ Judged p marks (understood p bits) (now («data» .entry)) (now («data» .exit)) r ⌝ }
 {
-    let v = sort(p.mode, marks, scrambled(p, bits));
+    let v = weigh_all(p.mode, marks, scrambled(p, bits));
     let block = v.block;
     let reasons = v.reasons;
     Receipt {

@@ -1,6 +1,6 @@
 // Receiving a block: whole, or symbol by symbol.
 ghost use mathlib.Core.Path.{_≡_};
-ghost use Prim.Native.Nat.{ℕ, _*_, _<_};
+ghost use Prim.Native.Nat.{_*_, _<_};
 ghost use lib.Dec.{T};
 ghost use lib.ListN.{length};
 ghost use Rattle.rules.specs.Slots.{isMode, slotBits, slots, symbols};
@@ -100,6 +100,7 @@ fn silence(number: u32) -> Receipt
 pub fn conclude(p: Profile, marks: u16, bits: [u8; 48000], data: &mut [u8]) -> Receipt
     ensures { λ r. ⌜ ConcludeRule p marks bits (now («data» .entry)) (now («data» .exit)) r ⌝ }
 {
+    // There are no lists of cells here.
     let number = early(p, data.len(), 0, 0, 0);
     if number != 0 {
         return silence(number);

@@ -1,11 +1,7 @@
 -- A number before any judgement, or the judgement.
 use mathlib.Core.Path.{_≡_, refl, sym, _∙_}
-use mathlib.Core.List.{List}
-use Prim.Native.Nat.{ℕ, _*_}
-use lib.Dec.{T}
 use lib.ListN.{length}
 use borrow.Author.Needs.{needs}
-use Rattle.rules.specs.Profile.{inRange}
 use Rattle.block.proofs.Passed.{right}
 use Rattle.receiving.proofs.Numbers.{concluding, early-whole, conclude-refused, conclude-judged}
 use Rattle.receiving.proofs.conclude.Statement.{statement}

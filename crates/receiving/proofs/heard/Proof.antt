@@ -1,18 +1,12 @@
 -- The loop's invariant: the symbols before y are heard.
-use mathlib.Core.Path.{_≡_, refl, sym, _∙_, ap}
-use mathlib.Core.List.{List}
-use Prim.Native.Nat.{ℕ, _+_, _-_, _*_, _≤_, _<_}
+use mathlib.Core.Path.{_≡_, _∙_}
+use Prim.Native.Nat.{ℕ, _+_, _-_, _*_, _≤_}
 use native.Mathlib.Omega.{arith}
-use lib.ListN.{length}
 use borrow.Author.Needs.{needs}
-use Rattle.rules.specs.Bits.{row}
 use Rattle.laws.specs.Parts.{part-long}
 use Rattle.cells.proofs.Heard.{HeardTo, decided-in}
 use Rattle.receiving.proofs.heard.Statement.{statement}
 use Rattle.receiving.proofs.heard.Tie as tie
-use Rattle.receiving.proofs.heard.Reads as reads
-use Rattle.receiving.proofs.heard.Lts as lts
-use Rattle.receiving.proofs.with_symbol.Reads as with-symbol-reads
 
 abbrev Inv-loop : tie.InvT-loop
 Inv-loop mode firsts seconds n bits₀ y₀ bits y = (y ≤ n) × HeardTo mode y firsts seconds bits

@@ -1,38 +1,19 @@
 -- Each answer of `restore` is Delivered's: the k and the block's length are right, so the other two can't come.
 use mathlib.Core.Path.{_≡_, refl, sym, _∙_, ap, subst}
 use mathlib.Core.List.{List}
-use Prim.Native.Nat.{ℕ, _+_, _-_, _*_, _≤_, _<_}
+use Prim.Native.Nat.{ℕ, _+_, _*_, _≤_}
 use native.Mathlib.Omega.{arith}
-use lib.Dec.{T}
 use lib.ListN.{length, take}
 use lib.Seq.{length-take-le, getD-take}
 use borrow.Author.Needs.{needs}
 use Rattle.rules.specs.Bits.{row}
-use Rattle.rules.specs.Outer.{isK, column, Restored}
+use Rattle.rules.specs.Outer.{column, Restored}
 use Rattle.rules.specs.Block.{Delivered}
 use Rattle.rules.specs.declared.Outcome.{Outcome}
 use Rattle.rules.specs.declared.Outcome.the-variants.{Done, BadK, BadLength, TooManyLost, NoCodeword}
 use Rattle.outer.proofs.Roots.{k-range}
 use Rattle.receiving.proofs.judging.deliver.Statement.{statement}
 use Rattle.receiving.proofs.judging.deliver.Tie as tie
-
-module _ (k lost : ℕ) (block whole before : List ℕ) (right : T (isK k)) (room : length before ≡ 122 * k) where
-  -- the data is within the block
-  data-le : length whole ≡ 1952 → length before ≤ length whole
-  data-le long = omega (arith, k-range k right)
-
-  done : (after : List ℕ) → after ≡ take (length before) whole → Restored k lost block whole Done
-      → Delivered k lost (λ p j. column block j p) before after 0
-  done after e (isk, long, few, long', words) =
-      Delivered.whole few (column whole) words
-      (ap length e ∙ length-take-le (length before) whole (data-le long') ∙ room)
-      (λ p j hp hj. ap (λ (l : List ℕ). row l (122 * p + j)) e ∙ getD-take (length before) whole (122 * p + j) 0 (omega arith))
-
-  too-many : Restored k lost block whole TooManyLost → Delivered k lost (λ p j. column block j p) before before 9
-  too-many r = Delivered.tooMany (r .2) refl
-
-  no-codeword : Restored k lost block whole NoCodeword → Delivered k lost (λ p j. column block j p) before before 10
-  no-codeword r = Delivered.noCodeword (r .2) (r .3 .0) (r .3 .1) (r .3 .2) refl
 
 -- ---- what is known once the block is restored
 
@@ -93,21 +74,19 @@ returns : tie.Need-returns
 returns c =
     let t = c .before .before .before .before .before in
     let r = t .before .before .before in
-    let s = r .before .before .before in
-    done (s .args .k) (s .args .lost) (s .args .block) (after r) (given r) (s .pre .0) (s .pre .1) _ (c .before .before .copy .ensures)
-    (says r Done (t .enum-told .given .1))
+    let w = says r Done (t .enum-told .given .1) in
+    let e = c .before .before .copy .ensures in
+    let room = r .before .before .before .pre .1 in
+    Delivered.whole (w .2) (column (after r)) (w .4) (ap length e ∙ front-long r ∙ room)
+    (λ p j hp hj. ap (λ (l : List ℕ). row l (122 * p + j)) e ∙ getD-take (length (given r)) (after r) (122 * p + j) 0 (omega arith))
 
 returns-2 : tie.Need-returns-2
-returns-2 c =
-    let r = c .before .before .before in
-    let s = r .before .before .before in
-    too-many (s .args .k) (s .args .lost) (s .args .block) (after r) (given r) (s .pre .0) (s .pre .1) (says r TooManyLost (c .enum-told2 .given .1))
+returns-2 c = Delivered.tooMany (says (c .before .before .before) TooManyLost (c .enum-told2 .given .1) .2) refl
 
 returns-3 : tie.Need-returns-3
 returns-3 c =
-    let r = c .before .before .before in
-    let s = r .before .before .before in
-    no-codeword (s .args .k) (s .args .lost) (s .args .block) (after r) (given r) (s .pre .0) (s .pre .1) (says r NoCodeword (c .enum-told3 .given .1))
+    let w = says (c .before .before .before) NoCodeword (c .enum-told3 .given .1) in
+    Delivered.noCodeword (w .2) (w .3 .0) (w .3 .1) (w .3 .2) refl
 
 returns-4 : tie.Need-returns-4
 returns-4 c =

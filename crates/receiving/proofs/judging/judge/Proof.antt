@@ -2,15 +2,15 @@
 use borrow.Author.Needs.{needs}
 use Rattle.rules.specs.Bits.{row}
 use Rattle.block.proofs.Ranges.{ranges}
-use Rattle.receiving.proofs.Judgement.{sorted-judged, scrambled-judged}
+use Rattle.receiving.proofs.Judgement.{weighed-judged, scrambled-judged}
 use Rattle.receiving.proofs.judging.judge.Statement.{statement}
 use Rattle.receiving.proofs.judging.judge.Tie as tie
 
 scrambled-requires : tie.Need-scrambled-requires
 scrambled-requires c κs = search needs
 
-sort-requires : tie.Need-sort-requires
-sort-requires c κs = ranges (c .before .before .args .p) (c .before .before .pre .0) .mode
+weigh-all-requires : tie.Need-weigh-all-requires
+weigh-all-requires c κs = ranges (c .before .before .args .p) (c .before .before .pre .0) .mode
 
 deliver-requires : tie.Need-deliver-requires
 deliver-requires c κs =
@@ -26,8 +26,9 @@ returns c =
     let plain = b .before .scrambled in
     let s = b .before .before .before in
     scrambled-judged (s .args .p) (s .args .marks) (ranges (s .args .p) (s .pre .0) .mode) (s .args .bits) (plain .result) (plain .ensures)
-    (sorted-judged (s .args .p) (s .args .marks) (row (plain .result)) (b .sort .result .block) (b .sort .ensures) (c .before .before .deliver .ensures))
+    (weighed-judged (s .args .p) (s .args .marks) (row (plain .result)) (b .weigh-all .result .block) (b .weigh-all .ensures)
+    (c .before .before .deliver .ensures))
 
 pub judge-spec : {M : Type 1} → statement M
 judge-spec =
-    tie.close (tie.spec scrambled-requires sort-requires deliver-requires same-length returns)
+    tie.close (tie.spec scrambled-requires weigh-all-requires deliver-requires same-length returns)

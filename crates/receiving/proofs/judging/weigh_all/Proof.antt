@@ -1,6 +1,5 @@
 -- The loop's invariant: the first p packets are judged.
 use mathlib.Core.Path.{_≡_, refl, sym, _∙_, ap}
-use mathlib.Core.List.{List}
 use Prim.Native.Nat.{ℕ, _+_, _-_, _*_, _≤_, _<_}
 use native.Mathlib.Omega.{arith}
 use lib.ListN.{length}
@@ -9,21 +8,13 @@ use Rattle.rules.specs.Bits.{row}
 use Rattle.rules.specs.Slots.{packetBits}
 use Rattle.rules.specs.Block.{packetPart}
 use Rattle.laws.specs.Parts.{part, part-within, part-long, part-at}
-use Rattle.receiving.specs.Steps.{Sorted}
-use Rattle.receiving.proofs.Mask.{mask-lt}
-use Rattle.receiving.proofs.Judgement.{sorted-none, sorted-lt, sorted-next}
-use Rattle.receiving.proofs.judging.sort.Statement.{statement}
-use Rattle.receiving.proofs.judging.sort.Tie as tie
-use Rattle.receiving.proofs.judging.sort.Reads as reads
-use Rattle.receiving.proofs.judging.sort.Lts as lts
-use Rattle.interleaver.proofs.addresses.Reads as addresses-reads
-use Rattle.receiving.proofs.judging.copy.Reads as copy-reads
-use Rattle.receiving.proofs.judging.marked.Reads as marked-reads
-use Rattle.receiving.proofs.judging.weigh.Reads as weigh-reads
-use Rattle.receiving.proofs.judging.with_lost.Reads as with-lost-reads
+use Rattle.receiving.specs.Steps.{WeighedTo}
+use Rattle.receiving.proofs.Judgement.{weighed-none, weighed-lt, weighed-next}
+use Rattle.receiving.proofs.judging.weigh_all.Statement.{statement}
+use Rattle.receiving.proofs.judging.weigh_all.Tie as tie
 
 abbrev Inv-loop : tie.InvT-loop
-Inv-loop mode marks bits addresses n lost₀ reasons₀ block₀ p₀ lost reasons block p = (p ≤ 16) × Sorted p mode marks (row bits) lost reasons block
+Inv-loop mode marks bits addresses n lost₀ reasons₀ block₀ p₀ lost reasons block p = (p ≤ 16) × WeighedTo p mode marks (row bits) lost reasons block
 
 abbrev μ-loop : tie.MeasureT-loop
 μ-loop mode marks bits addresses n lost₀ reasons₀ block₀ p₀ lost reasons block p = 16 - p
@@ -67,7 +58,7 @@ packet-bits-requires c κs = search needs
 loop-holds : tie.Need-loop-holds Inv-loop μ-loop
 loop-holds c =
     let a = c .before .before .args in
-    (omega arith, sorted-none (a .mode) (a .marks) (row (a .t3)))
+    (omega arith, weighed-none (a .mode) (a .marks) (row (a .t3)))
 
 mul-at : tie.Need-mul-at Inv-loop μ-loop
 mul-at c = omega (arith, within (c .before .before .packet-bits .result) (c .before .loop .p) (omega arith) (omega arith))
@@ -105,7 +96,7 @@ with-lost-requires : tie.Need-with-lost-requires Inv-loop μ-loop
 with-lost-requires c κs =
     let l = c .before .before .before .before .before .before in
     let a = l .before .before .before .args in
-    (omega arith, sorted-lt (l .loop .p) (a .mode) (a .marks) (row (a .t3)) (l .loop .inv .1))
+    (omega arith, weighed-lt (l .loop .p) (a .mode) (a .marks) (row (a .t3)) (l .loop .inv .1))
 
 array-write-reasons : tie.Need-array-write-reasons Inv-loop μ-loop
 array-write-reasons c = omega arith
@@ -130,7 +121,8 @@ copy-requires c κs =
     let l = c .before .before .before .before .before .before .before .before .before .loop in
     let at : ℕ = 122 * l .p in
     let long = l .inv .1 .block-is .long in
-    c .before .before .before .before .weigh .ensures .bytes-are .long ∙ sym (part-long at (at + 122) (l .block) (omega arith) (omega arith) ∙ omega arith)
+    c .before .before .before .before .weigh .ensures .bytes-are .long
+    ∙ sym (part-long at (at + 122) (l .block) (omega arith) (omega arith) ∙ omega arith)
 
 add-p : tie.Need-add-p Inv-loop μ-loop
 add-p c = omega arith
@@ -148,7 +140,7 @@ loop-again c =
     let at : ℕ = n .result * l .p in
     let w = rw (b .before .before .before .before .before .before .marked .ensures) at (b .before .before .before .weigh .ensures) in (
       omega arith,
-      sorted-next (s .args .mode) (s .args .marks) (l .p) (row (s .args .t3)) (row (part at (at + n .result) (s .args .t3)))
+      weighed-next (s .args .mode) (s .args .marks) (l .p) (row (s .args .t3)) (row (part at (at + n .result) (s .args .t3)))
           (b .before .before .before .weigh .result) (b .before .with-lost .result) (122 * l .p + 122) (c .before .copy .last .1 .0) (s .pre)
           (omega arith) (own i) w (b .before .with-lost .ensures) refl (c .before .copy .ensures) (l .inv .1),
     )
@@ -159,8 +151,8 @@ returns c =
     let end : l .p ≡ 16 = omega arith in
     rw end at (l .inv .1)
 
-pub sort-spec : {M : Type 1} → statement M
-sort-spec =
+pub weigh-all-spec : {M : Type 1} → statement M
+weigh-all-spec =
     tie.close
     (tie.spec
     Inv-loop
