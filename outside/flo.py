@@ -314,7 +314,66 @@ def vectors():
     yield from cell_lines()
     yield from decision_lines()
 
-NAMES = {"vectors": vectors}
+# ---- crates/profiles: a table of good and damaged profiles
+
+def read_number(data):
+    """The number that reading these bytes answers."""
+    at, mode = 0, 0
+    for tag in range(1, 6):
+        due = {1: 32, 2: 4, 3: 1, 4: 1, 5: 4 * (48 if mode == 0 else 32)}[tag]
+        if at == len(data):
+            return 5
+        if len(data) - at < 3:
+            return 1
+        if data[at] != tag:
+            return 2
+        if data[at + 1] * 256 + data[at + 2] != due:
+            return 3
+        value = data[at + 3:at + 3 + due]
+        if len(value) < due:
+            return 1
+        words = [int.from_bytes(value[i:i + 4], "big") for i in range(0, due, 4)]
+        good = {1: all(0 < w < 2 ** 20 for w in words), 2: 0x0080_0000 <= words[0] < 0x7F80_0000, 3: value[0] < 2,
+                4: value[0] in (8, 12, 14), 5: all(0 < w < 2 ** 20 for w in words)}[tag]
+        if not good:
+            return 4
+        mode = value[0] if tag == 3 else mode
+        at += 3 + due
+    left = len(data) - at
+    return 0 if left == 0 else 1 if left < 3 else 2
+
+def profile_table():
+    for mode, k in (0, 14), (1, 8), (0, 8), (1, 12):
+        slots = 48 if mode == 0 else 32
+        good = write_profile(([(37 * i + 1) % 2 ** 20 for i in range(8)], 1.5, mode, k, [2 ** 20 - 1 - 977 * t for t in range(slots)]))
+        yield good
+        starts = [0, 35, 42, 46, 50, len(good)]
+        for at in starts:
+            for cut in range(max(0, at - 1), min(len(good), at + 4)):
+                yield good[:cut]
+            for extra in (b"\0", b"\0\0", b"\6\0\0", b"\6\0\4\0\0\0\0"):
+                yield good[:at] + extra
+            for place in range(at, min(len(good), at + 4)):
+                for other in (0, 1, 6, 255):
+                    yield good[:place] + bytes([other]) + good[place + 1:]
+        for level in 0, 0x8000_0000, 1, 0x007F_FFFF, 0x0080_0000, 0x7F7F_FFFF, 0x7F80_0000, 0x7FC0_0000, 0xBF80_0000, 0xFFFF_FFFF:
+            yield good[:38] + struct.pack(">I", level) + good[42:]
+        for at, number in (3, 0), (3, 2 ** 20), (31, 2 ** 20 - 1), (31, 2 ** 32 - 1), (53, 0), (53, 2 ** 20), (len(good) - 4, 0), (len(good) - 4, 2 ** 20):
+            yield good[:at] + struct.pack(">I", number) + good[at + 4:]
+        for at, number in [(45, n) for n in (0, 1, 2, 255)] + [(49, n) for n in (0, 7, 8, 12, 13, 14, 15, 16)]:
+            yield good[:at] + bytes([number]) + good[at + 1:]
+
+def profiles():
+    for data in profile_table():
+        number = read_number(data)
+        yield (number, 0, len(data), "same") if number == 0 else (number, "")
+
+def profiles_stdin():
+    for data in profile_table():
+        sys.stdout.buffer.write(struct.pack(">H", len(data)) + data)
+    return ()
+
+NAMES = {"vectors": vectors, "profiles": profiles, "profiles-stdin": profiles_stdin}
 
 if __name__ == "__main__":
     if len(sys.argv) != 2 or sys.argv[1] not in NAMES:

@@ -1,0 +1,77 @@
+// Reads a table of profiles, each after two bytes of its length, and prints the number that each is read with. What is read well is written again:
+// then the count and whether the bytes came back follow. stdin and stdout are made by outside/flo.py.
+ghost use mathlib.Core.Path.{_≡_};
+ghost use Prim.Native.Nat.{_<_};
+ghost use lib.ListN.{length};
+
+fn print(n: usize) {
+    io::print_decimal(1, n as u64);
+    io::write_all(1, b" ");
+}
+
+// Whether the first n written bytes are the read ones.
+fn compare(read: &[u8], written: &[u8], n: usize) {
+    if n <= written.len() {
+        if check::same(read, &written[0..n]) {
+            io::write_all(1, b"same");
+        }
+    }
+}
+
+fn written_again(bytes: &[u8], p: rules::Profile) {
+    let a = profile::write(p);
+    print(a.number as usize);
+    print(a.count);
+    let written = a.bytes;
+    compare(bytes, &written, a.count);
+}
+
+fn judged(bytes: &[u8]) {
+    let a = profile::read(bytes);
+    print(a.number as usize);
+    if a.number == 0 {
+        written_again(bytes, a.profile);
+    }
+    io::write_all(1, b"\n");
+}
+
+// The length that two bytes say, high byte first; no entry is longer than 511.
+fn length_of(high: u8, low: u8) -> usize
+    ensures { λ r. ⌜ r < 512 ⌝ }
+{
+    (high % 2) as usize * 256 + low as usize
+}
+
+// One entry of the table; false where there is none.
+fn entry(room: &mut [u8]) -> bool
+    requires { ⌜ length (now room) ≡ 512 ⌝ }
+{
+    let mut head = [0u8; 2];
+    if io::read_full(0, &mut head) != 2 {
+        return false;
+    }
+    let n = length_of(head[0], head[1]);
+    let part = &mut room[0..n];
+    if io::read_full(0, part) != n {
+        return false;
+    }
+    judged(part);
+    true
+}
+
+// All entries.
+fn table(room: &mut [u8])
+    requires { ⌜ length (now room) ≡ 512 ⌝ }
+{
+    let mut turn: usize = 0;
+    while turn < 4096 {
+        if !entry(room) {
+            return;
+        }
+        turn += 1;
+    }
+}
+
+fn main() {
+    table(&mut [0u8; 512]);
+}
