@@ -1,3 +1,4 @@
 pub mod Ranges
+pub mod Sizes
 pub mod Passed
 pub mod Scrambling

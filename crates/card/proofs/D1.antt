@@ -13,7 +13,7 @@ use Rattle.rules.specs.Slots.{packetBits, symbols, coded}
 use Rattle.rules.specs.Points.{doubtful}
 use Rattle.rules.specs.Profile.{inRange}
 use Rattle.rules.specs.Answers.{isNumber, isReason}
-use Rattle.rules.specs.Block.{early, ReceiveRule, Judged, Delivered, reason, judged, decided, packetPart}
+use Rattle.rules.specs.Block.{early, Answered, Delivered, reason, judged, packetPart}
 use Rattle.rules.specs.Block.{checkRight, reservedRight, decidedData}
 use Rattle.rules.specs.Demands.{D1}
 use Rattle.rules.specs.declared.Profile.{Profile}
@@ -63,24 +63,28 @@ abbrev Told : List ℕ → List ℕ → Receipt → Type 0
 Told before after a =
     T (isNumber (a .number)) × ((p : ℕ) → p < 16 → T (isReason (row (a .reasons) p))) × (¬ (a .number ≡ 0) → after ≡ before)
 
-received : (P : Profile) (marks : ℕ) (f s : List Float) (before after : List ℕ) (a : Receipt)
-    → ReceiveRule P marks f s before after a
+-- a refusal is silent, and else a judgement
+told : (P : Profile) (marks bytes firsts seconds cells : ℕ) (v : ℕ → ℕ) (before after : List ℕ) (a : Receipt)
+    → Answered P marks (early P bytes firsts seconds cells) v before after a
     → Told before after a
-received P marks f s before after a r = go (ℕ-discrete n 0)
+told P marks bytes firsts seconds cells v before after a r = go (ℕ-discrete (early P bytes firsts seconds cells) 0)
   where
-    n : ℕ
-    n = early P (length before) (length f) (length s) (4096 * symbols (P .mode))
-
-    go : Dec (n ≡ 0) → Told before after a
+    go : Dec (early P bytes firsts seconds cells ≡ 0) → Told before after a
     go (yes e) =
-        let j : Judged P marks (decided P f s) before after a = r .judged e in
+        let j = r .judged e in
         let d = delivered-number (j .delivered) in
-        (d .0, (λ p l. rw (j .reasons-are p l) (reason-number (P .mode) (marked marks p) (packetPart (P .mode) (decided P f s) p))), d .1)
+        (d .0, (λ p l. rw (j .reasons-are p l) (reason-number (P .mode) (marked marks p) (packetPart (P .mode) v p))), d .1)
     go (no ne) =
-        let q = r .refused n refl ne in
+        let q = r .refused ne in
         let silent : (p : ℕ) → p < 16 → T (isReason (row (replicate 16 0) p)) = (λ p l. rw (getD-replicate {A = ℕ} 16 p 0 0 l) tt) in
-        subst (λ (b : Receipt). Told before after b) (sym (q .0))
-        (early-number P (length before) (length f) (length s) (4096 * symbols (P .mode)), silent, λ z. q .1)
+        subst (λ (b : Receipt). Told before after b) (sym (q .0)) (early-number P bytes firsts seconds cells, silent, λ z. q .1)
+
+-- the numbers of hearing
+hear-number : (a b c : Bool) → T (isNumber (pick a 4 (pick b 7 (pick c 0 8))))
+hear-number true b c = tt
+hear-number false true c = tt
+hear-number false false true = tt
+hear-number false false false = tt
 
 pub d1 : D1
 d1 =
@@ -91,7 +95,12 @@ d1 =
           let e : ℕ = early P (length d) (length f) (length s) 4096 in
           let good : T (isNumber e) = early-number P (length d) (length f) (length s) 4096 in
           (rw (r .answer) (symbol-number (eqb e 0) (ltb symbol (symbols (P .mode))) e good), r .kept);
-      receive = received;
+      receive = λ P marks f s before after a. told P marks (length before) (length f) (length s) (4096 * symbols (P .mode)) _ before after a;
+      hear = λ P symbol f s before after n r. (
+        rw (r .answer) (hear-number (not (inRange P)) (not (eqb (length f) 4096 && eqb (length s) 4096)) (ltb symbol (symbols (P .mode)))),
+        r .kept,
+      );
+      conclude = λ P marks bits before after a. told P marks (length before) 0 0 0 _ before after a;
       read = read-number;
       write = write-number;
     }

@@ -20,7 +20,8 @@ use Rattle.rules.specs.declared.Profile.{Profile}
 use Rattle.rules.specs.declared.Receipt.{Receipt}
 use Rattle.laws.specs.Holds.{holds-one}
 use Rattle.profile.proofs.RoundTrip.{read-written, written-read}
-use Rattle.card.proofs.OneAnswer.{one-receipt}
+use Rattle.receiving.proofs.BySymbol.{in-turn-received}
+use Rattle.card.proofs.OneAnswer.{one-answer, one-hearing}
 use Rattle.card.proofs.Place.{mode-of, judges, reason-verdict, accepted}
 
 -- cells leave one pair of lists
@@ -84,7 +85,7 @@ accepts : (P : Profile) (marks : ℕ) (f s : List Float) (before after : List �
     → marked marks p ≡ 0
     → (row (a .reasons) p ≡ 0) ↔ SomePacket P f s p
 accepts P marks f s before after a r t b x y p l u =
-    let is = judges r t b x y .reasons-are p l ∙ reason-verdict P marks f s p (omega arith) in
+    let is = judges f s r t b x y .reasons-are p l ∙ reason-verdict P marks f s p (omega arith) in
     let iff = accepted P (mode-of P t) f s p in
     ((λ e. iff .0 (sym is ∙ e)), λ q. is ∙ iff .1 q)
 
@@ -95,7 +96,10 @@ d2 =
           one-sending P d 0 (symbols (P .mode)) (a .answer ∙ sym (b .answer)) (a .cells) (b .cells) (a .kept) (b .kept);
       one-symbol = λ P d symbol f s f' s' f'' s'' n m a b.
           one-sending P d symbol 1 (a .answer ∙ sym (b .answer)) (a .cells) (b .cells) (a .kept) (b .kept);
-      one-receipt = λ P marks f s before after after' a b. one-receipt P marks before f s after after' a b;
+      one-receipt = λ P marks f s before after after' a b. one-answer P marks before (length before) (length f) (length s) (4096 * symbols (P .mode)) _ after after' a b;
+      one-hearing = one-hearing;
+      one-conclusion = λ P marks bits before after after' a b. one-answer P marks before (length before) 0 0 0 _ after after' a b;
+      by-symbol = in-turn-received;
       symbol-of-grid = symbol-of-grid;
       accepts = accepts;
       read-written = read-written;

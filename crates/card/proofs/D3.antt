@@ -161,7 +161,7 @@ d3 =
     record {
       heard-as-sent = λ P d f s t c. grid-heard P d f s t c;
       sent-and-received = λ P d marks f s before after a t long bytes room firsts seconds each r.
-          let j : Judged P marks (decided P f s) before after a = judges r t room firsts seconds in
+          let j : Judged P marks (decided P f s) before after a = judges f s r t room firsts seconds in
           let back = comes-back P d marks f s before after a t bytes each j long in
           (lost-set P d marks f s before after a t bytes each j, back .0, back .1);
     }

@@ -1,9 +1,9 @@
--- A call can't lawfully answer in two ways: what the rules of sending one symbol and of receiving leave is one answer.
+-- A call can't lawfully answer in two ways: what the rules of receiving and hearing leave is one answer.
 use mathlib.Core.Path.{_≡_, refl, sym, ap, subst, _∙_}
 use mathlib.Core.Bool.{Bool, true, false, not}
 use mathlib.Core.List.{List}
 use Prim.Native.Nat.{ℕ, _+_, _-_, _*_, _/_, _%_, _^_, _<_, _≤_}
-use native.Mathlib.Decide.{ℕ-discrete}
+use native.Mathlib.Decide.{ℕ-discrete, decLt}
 use native.Mathlib.Omega.{arith}
 use lib.Dec.{T, lit≤}
 use lib.Ieee.{Float}
@@ -11,9 +11,9 @@ use lib.ListN.{length}
 use lib.Seq.{ext-getD}
 use Rattle.rules.specs.Bits.{pick, row}
 use Rattle.rules.specs.Outer.{isK}
-use Rattle.rules.specs.Slots.{symbols}
+use Rattle.rules.specs.Slots.{slotBits, slots, symbolOf}
 use Rattle.rules.specs.Profile.{inRange}
-use Rattle.rules.specs.Block.{early, packetPart, decidedData, byteOf, lostMask, Delivered, Judged, ReceiveRule}
+use Rattle.rules.specs.Block.{early, packetPart, decidedData, byteOf, lostMask, Delivered, Judged, Answered, HearRule}
 use Rattle.rules.specs.declared.Profile.{Profile}
 use Rattle.rules.specs.declared.Receipt.{Receipt}
 use Rattle.outer.proofs.Roots.{by-k, rate as outer-rate}
@@ -80,18 +80,46 @@ module _ (P : Profile) (marks : ℕ) (before : List ℕ) where
       fits : a .lost < 2 ^ 16
       fits = subst (λ (l : ℕ). l < 2 ^ 16) (sym (x .lost-is)) (mask-lt (row (a .reasons)) 16)
 
-  pub one-receipt : (f s : List Float) (after after' : List ℕ) (a b : Receipt)
-      → ReceiveRule P marks f s before after a
-      → ReceiveRule P marks f s before after' b
+  -- a refusal is silent, and else the same bits are judged
+  pub one-answer : (bytes firsts seconds cells : ℕ) (v : ℕ → ℕ) (after after' : List ℕ) (a b : Receipt)
+      → Answered P marks (early P bytes firsts seconds cells) v before after a
+      → Answered P marks (early P bytes firsts seconds cells) v before after' b
       → (a ≡ b) × (after ≡ after')
-  one-receipt f s after after' a b x y = go (ℕ-discrete n 0)
+  one-answer bytes firsts seconds cells v after after' a b x y = go (ℕ-discrete (early P bytes firsts seconds cells) 0)
     where
-      n : ℕ
-      n = early P (length before) (length f) (length s) (4096 * symbols (P .mode))
-
-      go : Dec (n ≡ 0) → (a ≡ b) × (after ≡ after')
-      go (yes e) = one-judgement _ after after' a b (in-range (inRange P) _ e) (x .judged e) (y .judged e)
+      go : Dec (early P bytes firsts seconds cells ≡ 0) → (a ≡ b) × (after ≡ after')
+      go (yes e) = one-judgement v after after' a b (in-range (inRange P) _ e) (x .judged e) (y .judged e)
       go (no ne) =
-          let p = x .refused n refl ne in
-          let q = y .refused n refl ne in
+          let p = x .refused ne in
+          let q = y .refused ne in
           (p .0 ∙ sym (q .0), p .1 ∙ sym (q .1))
+
+-- one answer to hearing, and the same bits: each is the symbol's own, another's or past the block
+pub one-hearing : (P : Profile) (symbol : ℕ) (f s : List Float) (before after after' : List ℕ) (n m : ℕ)
+    → HearRule P symbol f s before after n
+    → HearRule P symbol f s before after' m
+    → (n ≡ m) × (after ≡ after')
+one-hearing P symbol f s before after after' n m x y = (same, go (ℕ-discrete n 0))
+  where
+    same : n ≡ m
+    same = x .answer ∙ sym (y .answer)
+
+    w : ℕ
+    w = slotBits (P .mode)
+
+    bit : n ≡ 0 → (g : ℕ) → Dec (g < w * slots (P .mode)) → Dec (symbolOf (g / w) ≡ symbol) → row after g ≡ row after' g
+    bit z g (no past) own = x .past z g (omega arith) ∙ sym (y .past (sym same ∙ z) g (omega arith))
+    bit z g (yes lt) (yes own) =
+        let place : w * (g / w) + g % w ≡ g = omega arith in
+        ap (row after) (sym place) ∙ x .own z (g / w) (g % w) (omega arith) (omega arith) own
+        ∙ sym (y .own (sym same ∙ z) (g / w) (g % w) (omega arith) (omega arith) own) ∙ ap (row after') place
+    bit z g (yes lt) (no other) =
+        let place : w * (g / w) + g % w ≡ g = omega arith in
+        ap (row after) (sym place) ∙ x .others z (g / w) (g % w) (omega arith) (omega arith) other
+        ∙ sym (y .others (sym same ∙ z) (g / w) (g % w) (omega arith) (omega arith) other) ∙ ap (row after') place
+
+    go : Dec (n ≡ 0) → after ≡ after'
+    go (yes z) =
+        ext-getD 0 after after' (x .long ∙ sym (y .long))
+        (λ g l. bit z g (decLt g (w * slots (P .mode))) (ℕ-discrete (symbolOf (g / w)) symbol))
+    go (no ne) = x .kept ne ∙ sym (y .kept (λ e. ne (same ∙ e)))

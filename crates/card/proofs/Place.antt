@@ -38,14 +38,14 @@ unfolding inRange
 k-of P t = and-l (isK (P .k)) _ (and-r (isMode (P .mode)) _ (and-r (isLevel (P .level)) _ (and-r (all in20 (P .masks)) _ t)))
 
 -- with it, and rooms of the right lengths, receiving judges
-pub judges : {P : Profile} {marks : ℕ} {f s : List Float} {before after : List ℕ} {a : Receipt}
+pub judges : {P : Profile} {marks : ℕ} (f s : List Float) {before after : List ℕ} {a : Receipt}
     → ReceiveRule P marks f s before after a
     → T (inRange P)
     → length before ≡ 122 * P .k
     → length f ≡ 4096 * symbols (P .mode)
     → length s ≡ 4096 * symbols (P .mode)
     → Judged P marks (decided P f s) before after a
-judges {P} {f = f} {s = s} {before = before} r t b x y =
+judges {P} f s {before = before} r t b x y =
     r .judged
     (go (inRange P) (eqb (length before) (122 * P .k)) (eqb (length f) cells) (eqb (length s) cells) t (eq→eqb b) (eq→eqb x) (eq→eqb y))
   where

@@ -14,7 +14,7 @@ use Rattle.rules.specs.Bits.{pick, row}
 use Rattle.rules.specs.Slots.{slots, slotBits, symbols, symbolOf}
 use Rattle.rules.specs.Points.{zeroPart, decide}
 use Rattle.rules.specs.Cells.{pointCell}
-use Rattle.rules.specs.Block.{heard, partOf}
+use Rattle.rules.specs.Block.{heard, partOf, symbolPart}
 use Rattle.laws.specs.Holds.{Holds, put, holds-as, holds-put}
 use Rattle.cells.proofs.Inverse.{point-cell-lt}
 use Rattle.cells.specs.Symbol.{heardIn, readIn, decidedIn, slotsEnd}
@@ -149,10 +149,6 @@ decided-read m y t f s b l end h = holds-as 0 (decidedIn m y f s b) (λ g lt. at
 abbrev pub HeardTo : ℕ → ℕ → List Float → List Float → List ℕ → Type 0
 HeardTo m y f s l =
     (g : ℕ) → g < slotBits m * slots m → symbolOf (g / slotBits m) < y → row l g ≡ heard f s (g / slotBits m) (g % slotBits m)
-
--- symbol y's cells of a grid
-abbrev pub symbolPart : ℕ → List Float → List Float
-symbolPart y l = take 4096 (drop (4096 * y) l)
 
 part-at : (y c : ℕ) (l : List Float) → c < 4096 → getD (symbolPart y l) c zeroPart ≡ getD l (4096 * y + c) zeroPart
 part-at y c l h = getD-take 4096 (drop (4096 * y) l) c zeroPart h ∙ getD-drop (4096 * y) l c zeroPart

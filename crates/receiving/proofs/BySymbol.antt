@@ -11,15 +11,15 @@ use lib.ListN.{length}
 use borrow.Author.Tests.{eq-eqb, ne-eqb}
 use Rattle.rules.specs.Bits.{pick, row}
 use Rattle.rules.specs.Slots.{isMode, slotBits, slots, symbols, symbolOf}
-use Rattle.rules.specs.Block.{scrambler, unscrambled, early, understood, heard, decided, Judged, ReceiveRule, HearRule, ConcludeRule}
+use Rattle.rules.specs.Block.{scrambler, unscrambled, early, understood, heard, decided, silence, Judged, ReceiveRule, HearRule, ConcludeRule, symbolPart, InTurn}
 use Rattle.rules.specs.declared.Profile.{Profile}
 use Rattle.rules.specs.declared.Receipt.{Receipt}
 use Rattle.cells.specs.Symbol.{heardIn, decidedIn}
-use Rattle.cells.proofs.Heard.{HeardTo, symbolPart, decided-in, heard-none, heard-all}
+use Rattle.cells.proofs.Heard.{HeardTo, decided-in, heard-none, heard-all}
 use Rattle.block.proofs.Ranges.{ranges}
 use Rattle.block.proofs.Passed.{right}
 use Rattle.receiving.proofs.Judgement.{judged-same}
-use Rattle.receiving.proofs.Numbers.{concluding, early-whole}
+use Rattle.receiving.proofs.Numbers.{early-whole}
 
 -- every bit of the block is as the grid's cells decide
 abbrev pub AllHeard : ℕ → List Float → List Float → List ℕ → Type 0
@@ -59,17 +59,9 @@ pub hear-next : (P : Profile) (f s : List Float) (y : ℕ) (before after : List 
 hear-next P f s y before after n h z so g lt k =
     heard-bit P (symbolPart y f) (symbolPart y s) y before after n h z g lt ∙ decided-in (P .mode) f s y before so g lt k
 
--- the symbols before y, heard one after the other into any bits
-pub data InTurn (P : Profile) (f s : List Float) : ℕ → List ℕ → Type 0 where
-  none : (bits : List ℕ) → InTurn P f s 0 bits
-  next : (y : ℕ) (before after : List ℕ)
-      → InTurn P f s y before
-      → HearRule P y (symbolPart y f) (symbolPart y s) before after 0
-      → InTurn P f s (y + 1) after
-
 in-turn : (P : Profile) (f s : List Float) {y : ℕ} {bits : List ℕ} → InTurn P f s y bits → HeardTo (P .mode) y f s bits
-in-turn P f s (none bits) = heard-none (P .mode) f s bits
-in-turn P f s (next y before after t h) = hear-next P f s y before after 0 h refl (in-turn P f s t)
+in-turn P f s (InTurn.none bits) = heard-none (P .mode) f s bits
+in-turn P f s (InTurn.next y before after t h) = hear-next P f s y before after 0 h refl (in-turn P f s t)
 
 module _ (P : Profile) (marks : ℕ) (f s : List Float) (bits before after : List ℕ) (a : Receipt) where
   pub heard-judged : T (isMode (P .mode)) → AllHeard (P .mode) f s bits → Judged P marks (understood P bits) before after a
@@ -84,13 +76,15 @@ module _ (P : Profile) (marks : ℕ) (f s : List Float) (bits before after : Lis
       → ConcludeRule P marks bits before after a → ReceiveRule P marks f s before after a
   by-symbol lf ls all c =
       record {
-        refused = λ n e ne. c .refused n (e ∙ whole) ne;
+        refused = λ ne.
+            let r = c .refused (λ z. ne (whole ∙ z)) in
+            (r .0 ∙ ap silence (sym whole), r .1);
         judged = λ z.
             let passed = right P (length before) (length f) (length s) (4096 * symbols (P .mode)) z in
-            heard-judged (ranges P (passed .range) .mode) all (c .judged (passed .range) (passed .data-long));
+            heard-judged (ranges P (passed .range) .mode) all (c .judged (sym whole ∙ z));
       }
     where
-      whole : early P (length before) (length f) (length s) (4096 * symbols (P .mode)) ≡ concluding P (length before)
+      whole : early P (length before) (length f) (length s) (4096 * symbols (P .mode)) ≡ early P (length before) 0 0 0
       whole = early-whole P (length before) (length f) (length s) (4096 * symbols (P .mode)) lf ls
 
   -- so is hearing all symbols in turn, and concluding

@@ -3,10 +3,12 @@ ghost use mathlib.Core.Path.{_≡_};
 ghost use Prim.Native.Nat.{_*_, _<_};
 ghost use lib.Dec.{T};
 ghost use lib.ListN.{length};
+ghost use Rattle.rules.specs.Bits.{row};
 ghost use Rattle.rules.specs.Slots.{isMode, slotBits, slots, symbols};
 ghost use Rattle.rules.specs.Block as rule;
 ghost use Rattle.rules.specs.Block.{ReceiveRule, HearRule, ConcludeRule};
-ghost use Rattle.laws.specs.Lists.{Filled};
+ghost use Rattle.laws.specs.Filled.{upTo};
+ghost use Rattle.laws.specs.Holds.{Holds};
 ghost use Rattle.cells.specs.Symbol.{decidedIn};
 ghost use Rattle.cells.proofs.Heard.{HeardTo};
 
@@ -33,7 +35,7 @@ fn with_symbol(
     bits: [u8; 48000],
 ) -> [u8; 48000]
     requires { ⌜ T (isMode mode) × (symbol < symbols mode) × (length (now firsts) ≡ 4096) × (length (now seconds) ≡ 4096) ⌝ }
-    ensures { λ r. ⌜ Filled 0 48000 (decidedIn mode symbol (now (firsts .entry)) (now (seconds .entry)) bits) (slotBits mode * slots mode) r ⌝ }
+    ensures { λ r. ⌜ Holds 0 48000 (upTo (slotBits mode * slots mode) (decidedIn mode symbol (now (firsts .entry)) (now (seconds .entry)) bits) (row bits)) r ⌝ }
 {
     let mut all = bits;
     let n = block_bits(mode);

@@ -4,11 +4,10 @@ use mathlib.Core.Bool.{Bool, true, false, not, _&&_}
 use mathlib.Core.List.{List}
 use Prim.Native.Nat.{ℕ, zero, suc, _+_, _-_, _*_, _/_, _%_, _^_, _<_, _≤_}
 use lib.Count.{ones}
-use lib.Dec.{T, eqb, ltb}
+use lib.Dec.{eqb, ltb}
 use lib.Ieee.{Float}
-use lib.ListN.{length, getD, replicate}
-pub use Rattle.rules.specs.Bits.{everyBelow}
-use Rattle.rules.specs.Bits.{pick, row, bitOf}
+use lib.ListN.{length, getD, replicate, take, drop}
+use Rattle.rules.specs.Bits.{pick, row, bitOf, everyBelow}
 use Rattle.rules.specs.Packet.{packetBit, checkWord}
 use Rattle.rules.specs.Outer.{encoded, Codeword, Agree, marked}
 use Rattle.rules.specs.Interleaver.{bitDeinterleaved}
@@ -165,16 +164,21 @@ pub record Judged (P : Profile) (marks : ℕ) (v : ℕ → ℕ) (before after : 
 abbrev pub silence : ℕ → Receipt
 silence n = record { number = n; lost = 0; reasons = replicate 16 0 }
 
--- what receiving answers, and what the room for the data then holds: 4, 6, 7, then the judgement
-pub record ReceiveRule (P : Profile) (marks : ℕ) (firsts seconds : List Float) (before after : List ℕ) (a : Receipt) : Type 0 where
-  pub refused : (n : ℕ)
-      → n ≡ early P (length before) (length firsts) (length seconds) (4096 * symbols (P .mode))
-      → ¬ (n ≡ 0)
-      → (a ≡ silence n) × (after ≡ before)
-  pub judged : early P (length before) (length firsts) (length seconds) (4096 * symbols (P .mode)) ≡ 0
-      → Judged P marks (decided P firsts seconds) before after a
+-- what is answered, and what the room for the data then holds, where the number n comes first: a refusal, then the judgement of the decided bits v
+pub record Answered (P : Profile) (marks n : ℕ) (v : ℕ → ℕ) (before after : List ℕ) (a : Receipt) : Type 0 where
+  pub refused : ¬ (n ≡ 0) → (a ≡ silence n) × (after ≡ before)
+  pub judged : n ≡ 0 → Judged P marks v before after a
+
+-- 4, 6, 7, then the judgement
+abbrev pub ReceiveRule : Profile → ℕ → List Float → List Float → List ℕ → List ℕ → Receipt → Type 0
+ReceiveRule P marks firsts seconds before after a =
+    Answered P marks (early P (length before) (length firsts) (length seconds) (4096 * symbols (P .mode))) (decided P firsts seconds) before after a
 
 -- ---- the same symbol by symbol: bits are lent as 48000 numbers, those past the block's unused
+
+-- symbol y's own part of a list of cells
+abbrev pub symbolPart : ℕ → List Float → List Float
+symbolPart y l = take 4096 (drop (4096 * y) l)
 
 -- one symbol's cells are heard into the block's bits: 4, 7, 8
 pub record HearRule (P : Profile) (symbol : ℕ) (firsts seconds : List Float) (before after : List ℕ) (number : ℕ) : Type 0 where
@@ -194,17 +198,22 @@ pub record HearRule (P : Profile) (symbol : ℕ) (firsts seconds : List Float) (
       → i < slotBits (P .mode)
       → ¬ (symbolOf t ≡ symbol)
       → row after (slotBits (P .mode) * t + i) ≡ row before (slotBits (P .mode) * t + i)
+  pub past : number ≡ 0 → (g : ℕ) → slotBits (P .mode) * slots (P .mode) ≤ g → row after g ≡ row before g
   pub kept : ¬ (number ≡ 0) → after ≡ before
+
+-- the symbols of a grid before the given one, heard one after the other into any bits
+pub data InTurn (P : Profile) (f s : List Float) : ℕ → List ℕ → Type 0 where
+  none : (bits : List ℕ) → InTurn P f s 0 bits
+  next : (y : ℕ) (before after : List ℕ)
+      → InTurn P f s y before
+      → HearRule P y (symbolPart y f) (symbolPart y s) before after 0
+      → InTurn P f s (y + 1) after
 
 -- bit g of the block from what was heard
 abbrev pub understood : Profile → List ℕ → ℕ → ℕ
 understood P bits g =
     unscrambled (row bits g) (scrambler P (g / slotBits (P .mode)) (g % slotBits (P .mode)))
 
--- once all symbols have been heard: 4, 6, then the judgement
-pub record ConcludeRule (P : Profile) (marks : ℕ) (bits before after : List ℕ) (a : Receipt) : Type 0 where
-  pub refused : (n : ℕ)
-      → n ≡ pick (not (inRange P)) 4 (pick (eqb (length before) (122 * P .k)) 0 6)
-      → ¬ (n ≡ 0)
-      → (a ≡ silence n) × (after ≡ before)
-  pub judged : T (inRange P) → length before ≡ 122 * P .k → Judged P marks (understood P bits) before after a
+-- once all symbols have been heard: 4, 6, then the judgement; there are no lists of cells
+abbrev pub ConcludeRule : Profile → ℕ → List ℕ → List ℕ → List ℕ → Receipt → Type 0
+ConcludeRule P marks bits before after a = Answered P marks (early P (length before) 0 0 0) (understood P bits) before after a

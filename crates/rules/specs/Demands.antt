@@ -16,7 +16,7 @@ use Rattle.rules.specs.Slots.{slotBits, packetBits, symbols, coded}
 use Rattle.rules.specs.Points.{zeroPart, doubtful}
 use Rattle.rules.specs.Profile.{inRange, Shape, reading, writing, written, blank}
 use Rattle.rules.specs.Answers.{isNumber, isReason}
-use Rattle.rules.specs.Block.{scrambler, sentBit, heard, Cells, SendRule, SendSymbolRule, ReceiveRule}
+use Rattle.rules.specs.Block.{scrambler, sentBit, heard, Cells, SendRule, SendSymbolRule, ReceiveRule, HearRule, ConcludeRule, InTurn}
 use Rattle.rules.specs.declared.Profile.{Profile}
 use Rattle.rules.specs.declared.Reading.{Reading}
 use Rattle.rules.specs.declared.Writing.{Writing}
@@ -33,6 +33,12 @@ pub record D1 : Type 0 where
       → T (isNumber n) × (¬ (n ≡ 0) → (f' ≡ f) × (s' ≡ s))
   pub receive : (P : Profile) (marks : ℕ) (f s : List Float) (before after : List ℕ) (a : Receipt)
       → ReceiveRule P marks f s before after a
+      → T (isNumber (a .number)) × ((p : ℕ) → p < 16 → T (isReason (row (a .reasons) p))) × (¬ (a .number ≡ 0) → after ≡ before)
+  pub hear : (P : Profile) (symbol : ℕ) (f s : List Float) (before after : List ℕ) (n : ℕ)
+      → HearRule P symbol f s before after n
+      → T (isNumber n) × (¬ (n ≡ 0) → after ≡ before)
+  pub conclude : (P : Profile) (marks : ℕ) (bits before after : List ℕ) (a : Receipt)
+      → ConcludeRule P marks bits before after a
       → T (isNumber (a .number)) × ((p : ℕ) → p < 16 → T (isReason (row (a .reasons) p))) × (¬ (a .number ≡ 0) → after ≡ before)
   pub read : (s : List ℕ) → T (isNumber (reading s .number)) × (¬ (reading s .number ≡ 0) → reading s .profile ≡ blank)
   pub write : (P : Profile) → T (isNumber (writing P .number))
@@ -57,7 +63,7 @@ SomePacket P f s p =
     × ((i : ℕ) → i < packetBits (P .mode) → heardInPlace P f s p i ≡ bitInPlace P e p i)
 
 pub record D2 : Type 0 where
-  -- the rules of sending and receiving leave one answer only
+  -- the rules of sending, receiving and hearing leave one answer only
   pub one-grid : (P : Profile) (d : List ℕ) (f s f' s' f'' s'' : List Float) (n m : ℕ)
       → SendRule P d f s f' s' n
       → SendRule P d f s f'' s'' m
@@ -70,6 +76,21 @@ pub record D2 : Type 0 where
       → ReceiveRule P marks f s before after a
       → ReceiveRule P marks f s before after' a'
       → (a ≡ a') × (after ≡ after')
+  pub one-hearing : (P : Profile) (symbol : ℕ) (f s : List Float) (before after after' : List ℕ) (n m : ℕ)
+      → HearRule P symbol f s before after n
+      → HearRule P symbol f s before after' m
+      → (n ≡ m) × (after ≡ after')
+  pub one-conclusion : (P : Profile) (marks : ℕ) (bits before after after' : List ℕ) (a a' : Receipt)
+      → ConcludeRule P marks bits before after a
+      → ConcludeRule P marks bits before after' a'
+      → (a ≡ a') × (after ≡ after')
+  -- to hear every symbol of a grid in turn and then to conclude is to receive the grid
+  pub by-symbol : (P : Profile) (marks : ℕ) (f s : List Float) (bits before after : List ℕ) (a : Receipt)
+      → length f ≡ 4096 * symbols (P .mode)
+      → length s ≡ 4096 * symbols (P .mode)
+      → InTurn P f s (symbols (P .mode)) bits
+      → ConcludeRule P marks bits before after a
+      → ReceiveRule P marks f s before after a
   -- one symbol sent alone is that part of the whole grid
   pub symbol-of-grid : (P : Profile) (d : List ℕ) (symbol : ℕ) (f s f' s' F S F' S' : List Float) (i : ℕ)
       → SendSymbolRule P d symbol f s f' s' 0

@@ -22,7 +22,8 @@ use Rattle.cells.specs.Symbol.{slotBit, symbolCell, Written}
 use Rattle.cells.proofs.Inverse.{cell-carried}
 use Rattle.laws.specs.Parts.{part-number, part-place}
 use Rattle.sending.specs.Steps.{Grid}
-use Rattle.sending.proofs.Sent.{whole-slots, SentRow}
+use Rattle.block.proofs.Sizes.{whole-slots}
+use Rattle.sending.proofs.Sent.{SentRow}
 
 module _ (P : Profile) (d : List ℕ) where
   abbrev m : ℕ

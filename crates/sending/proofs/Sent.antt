@@ -1,13 +1,12 @@
 -- The steps together: the block's packets, coded and scrambled, are the sent bits.
 use mathlib.Core.Path.{_≡_, refl, _∙_, ap}
-use mathlib.Core.Bool.{Bool, true, false}
 use mathlib.Core.List.{List}
 use Prim.Native.Nat.{ℕ, _+_, _*_, _/_, _%_, _<_, _≤_}
 use native.Mathlib.Nat.{mod-lt, div-lt-iff-lt-mul}
 use native.Mathlib.Decide.{decLt}
 use native.Mathlib.Omega.{arith}
-use lib.Dec.{T, eqb, lit<, lit≤}
-use Rattle.rules.specs.Bits.{pick, row}
+use lib.Dec.{T, lit<}
+use Rattle.rules.specs.Bits.{row}
 use Rattle.rules.specs.Packet.{packetBit}
 use Rattle.rules.specs.Slots.{isMode, packetBits, slots, slotBits, blockBit}
 use Rattle.rules.specs.Block.{packet, scrambler, sentBit, unscrambled}
@@ -19,15 +18,8 @@ use Rattle.packet.proofs.Bits.{packet-same, packet-bit-lt}
 use Rattle.turbo.proofs.Modes.{coded-same, coded-bit}
 use Rattle.slots.proofs.Twice.{unscrambled-bit}
 use Rattle.block.specs.Steps.{scrambledRow}
+use Rattle.block.proofs.Sizes.{whole-slots}
 use Rattle.sending.specs.Steps.{codedRow}
-
--- a block's packets fill its slots
-pub whole-slots : (m : ℕ) → (packetBits m * 16 ≡ 1000 * slots m) × (1000 * slots m ≤ 48000) × (2000 ≤ packetBits m)
-whole-slots m = go (eqb m 0)
-  where
-    go : (b : Bool) → (let n : ℕ = pick b 3000 2000 in (n * 16 ≡ 1000 * (16 * n / 1000)) × (1000 * (16 * n / 1000) ≤ 48000) × (2000 ≤ n))
-    go true = (refl, lit≤ tt, lit≤ tt)
-    go false = (refl, lit≤ tt, lit≤ tt)
 
 -- the list has the block's bits, slot after slot
 abbrev pub SentRow : Profile → List ℕ → List ℕ → Type 0

@@ -5,9 +5,9 @@ use Prim.Native.Nat.{ℕ, zero, suc, _+_, _*_, _<_}
 use native.Mathlib.Numerals.{add-one}
 use native.Mathlib.Omega.{arith}
 use lib.Dec.{eqb}
-use Rattle.rules.specs.Bits.{bitOf}
+use Rattle.rules.specs.Bits.{bitOf, everyBelow}
 use Rattle.rules.specs.Packet.{checkWord}
-use Rattle.rules.specs.Block.{everyBelow, byteOf, checkRight, reservedRight}
+use Rattle.rules.specs.Block.{byteOf, checkRight, reservedRight}
 use Rattle.packet.proofs.Number.{number-byte, number-same}
 use Rattle.packet.proofs.Bits.{word-same}
 

@@ -11,8 +11,7 @@ use lib.Dec.{T, eqb, ltb, ltb→lt, eqb→eq}
 use lib.Ieee.Fits.{and-l, and-r}
 use lib.ListN.{length, getD}
 use borrow.Author.Tests.{lt-ltb, le-ltb}
-use Rattle.rules.specs.Bits.{pick}
-use Rattle.rules.specs.Block.{everyBelow}
+use Rattle.rules.specs.Bits.{pick, everyBelow}
 use Rattle.rules.specs.Turbo.{Rate, half, third, Output, Sent, X, Y0, X', Y'0, at, period, pattern, tail, dataOutput, tailOutput}
 use Rattle.rules.specs.Turbo.{feedback, parityOf, shift, entering, state, y0, ending, dataLength, codedLength, codedBit, dataPlace}
 use Rattle.laws.specs.Every.{every-at}

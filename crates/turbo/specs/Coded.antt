@@ -5,12 +5,12 @@ use mathlib.Core.List.{List}
 use Prim.Native.Nat.{ℕ}
 use lib.Dec.{T, eqb, ltb}
 use lib.ListN.{length, replicate}
-use Rattle.rules.specs.Bits.{row}
+use Rattle.rules.specs.Bits.{row, everyBelow}
 use Rattle.rules.specs.Packet.{packetBit}
 use Rattle.rules.specs.Interleaver.{bitInterleaved}
 use Rattle.rules.specs.Points.{doubtful}
 use Rattle.rules.specs.Slots.{isMode, rate, packetBits, coded}
-use Rattle.rules.specs.Block.{everyBelow, verdict, decidedData, byteOf}
+use Rattle.rules.specs.Block.{verdict, decidedData, byteOf}
 use Rattle.rules.specs.declared.Coding.{Coding}
 use Rattle.rules.specs.declared.Coding.the-variants.{Coded, WrongMode, WrongLength}
 use Rattle.rules.specs.declared.Judgement.{Judgement}

@@ -3,7 +3,8 @@ use mathlib.Core.Path.{_≡_, refl, sym, _∙_}
 use lib.ListN.{length}
 use borrow.Author.Needs.{needs}
 use Rattle.block.proofs.Passed.{right}
-use Rattle.receiving.proofs.Numbers.{concluding, early-whole, conclude-refused, conclude-judged}
+use Rattle.rules.specs.Block.{understood}
+use Rattle.receiving.proofs.Numbers.{answered-refused, answered-judged}
 use Rattle.receiving.proofs.conclude.Statement.{statement}
 use Rattle.receiving.proofs.conclude.Tie as tie
 
@@ -13,17 +14,12 @@ early-requires c κs = search needs
 silence-requires : tie.Need-silence-requires
 silence-requires c κs = search needs
 
--- there are no lists of cells here
-number : (c : tie.After-early)
-    → let a = c .before .before .args in c .early .result ≡ concluding (a .p) (length (a .«data» .now))
-number c = let a = c .before .before .args in c .early .ensures ∙ early-whole (a .p) (length (a .«data» .now)) 0 0 0 refl refl
-
 returns : tie.Need-returns
 returns c =
     let e = c .before .before in
     let a = e .before .before .args in
-    conclude-refused (a .p) (a .marks) (a .«data» .now) (a .«data» .now) (c .silence .result) (a .bits) (e .early .result) (number e)
-    (c .before .if1 .taken) (c .silence .ensures) refl
+    answered-refused (a .p) (a .marks) _ (understood (a .p) (a .bits)) (a .«data» .now) (a .«data» .now) (c .silence .result) (e .early .result)
+    (e .early .ensures) (c .before .if1 .taken) (c .silence .ensures) refl
 
 judge-requires : tie.Need-judge-requires
 judge-requires c κs =
@@ -40,8 +36,8 @@ returns-2 c =
     let i = c .before .before .before .before in
     let e = i .before in
     let a = e .before .before .args in
-    conclude-judged (a .p) (a .marks) (a .«data» .now) _ (c .before .before .judge .result) (a .bits) (sym (number e) ∙ i .if1 .left)
-    (c .before .before .judge .ensures)
+    answered-judged (a .p) (a .marks) _ (understood (a .p) (a .bits)) (a .«data» .now) _ (c .before .before .judge .result)
+    (sym (e .early .ensures) ∙ i .if1 .left) (c .before .before .judge .ensures)
 
 pub conclude-spec : {M : Type 1} → statement M
 conclude-spec =

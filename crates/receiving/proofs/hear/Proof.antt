@@ -1,14 +1,15 @@
 -- The tests in their order; then the symbol's own bits are put in.
 use mathlib.Core.Path.{_≡_, sym, _∙_}
 use mathlib.Core.Bool.{true}
-use Prim.Native.Nat.{_<_}
+use Prim.Native.Nat.{_*_, _<_, _≤_}
 use native.Mathlib.Omega.{arith}
 use lib.ListN.{length}
 use borrow.Author.Needs.{needs}
 use borrow.Author.Tests.{not-true, not-false, eq-eqb, ne-eqb, lt-ltb, le-ltb}
-use Rattle.rules.specs.Slots.{symbols}
+use Rattle.rules.specs.Slots.{slotBits, slots, symbols}
 use Rattle.rules.specs.Profile.{inRange}
 use Rattle.block.proofs.Ranges.{ranges}
+use Rattle.block.proofs.Sizes.{whole-slots}
 use Rattle.receiving.proofs.OneSymbol.{hear-refused, hear-filled}
 use Rattle.receiving.proofs.hear.Statement.{statement}
 use Rattle.receiving.proofs.hear.Tie as tie
@@ -67,6 +68,13 @@ with-symbol-requires c κs = (
   c .before .before .if3 .left,
 )
 
+room : (c : tie.After-with-symbol)
+    → let a = c .before .before .before .before .before .before .before .before .before .args in
+    slotBits (a .p .mode) * slots (a .p .mode) ≤ length (a .bits)
+room c =
+    let s = c .before .before .before .before .before .before .before .before .before in
+    omega (arith, bits-long s, whole-slots (s .args .p .mode))
+
 returns-5 : tie.Need-returns-5
 returns-5 c =
     let e = c .before in
@@ -78,6 +86,7 @@ returns-5 c =
       eq-eqb _ _ (e .before .before .if3 .left),
       lt-ltb (a .symbol) (symbols (a .p .mode)) (inside e),
     ))
+    (room c)
     (rw (bits-long (e .before .before .before .before .before .before .before .before)) (c .with-symbol .ensures))
 
 pub hear-spec : {M : Type 1} → statement M

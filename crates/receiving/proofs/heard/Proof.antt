@@ -3,8 +3,14 @@ use mathlib.Core.Path.{_≡_, _∙_}
 use Prim.Native.Nat.{ℕ, _+_, _-_, _*_, _≤_}
 use native.Mathlib.Omega.{arith}
 use borrow.Author.Needs.{needs}
+use Rattle.rules.specs.Bits.{row}
+use Rattle.rules.specs.Slots.{slotBits, slots}
+use Rattle.rules.specs.Block.{symbolPart}
 use Rattle.laws.specs.Parts.{part-long}
+use Rattle.laws.specs.Filled.{upTo-below}
+use Rattle.cells.specs.Symbol.{decidedIn}
 use Rattle.cells.proofs.Heard.{HeardTo, decided-in}
+use Rattle.block.proofs.Sizes.{whole-slots}
 use Rattle.receiving.proofs.heard.Statement.{statement}
 use Rattle.receiving.proofs.heard.Tie as tie
 
@@ -72,7 +78,12 @@ loop-again c =
     let a = c .before .before .before .before .before .before .before .before .args in
     let width : 4096 * l .y + 4096 - 4096 * l .y ≡ 4096 = omega arith in
     let came = rw width at (c .with-symbol .ensures) in
-    (omega arith, λ g lt k. came .each g lt ∙ decided-in (a .mode) (a .firsts .now) (a .seconds .now) (l .y) (l .bits) (l .inv .1) g lt k)
+    let part : ℕ → ℕ = decidedIn (a .mode) (l .y) (symbolPart (l .y) (a .firsts .now)) (symbolPart (l .y) (a .seconds .now)) (l .bits) in (
+      omega arith,
+      λ g lt k.
+          came .each g (omega (arith, whole-slots (a .mode))) ∙ upTo-below part (row (l .bits)) (slotBits (a .mode) * slots (a .mode)) g lt
+          ∙ decided-in (a .mode) (a .firsts .now) (a .seconds .now) (l .y) (l .bits) (l .inv .1) g lt k,
+    )
 
 returns : tie.Need-returns Inv-loop μ-loop
 returns c =

@@ -4,11 +4,11 @@ use Prim.Native.Nat.{ℕ, _*_}
 use lib.ListN.{length}
 use borrow.Author.Needs.{needs}
 use Rattle.rules.specs.Slots.{symbols}
-use Rattle.rules.specs.Block.{early}
+use Rattle.rules.specs.Block.{early, decided}
 use Rattle.cells.proofs.Heard.{heard-all}
 use Rattle.block.proofs.Ranges.{ranges}
 use Rattle.block.proofs.Passed.{Right, right}
-use Rattle.receiving.proofs.Numbers.{receive-refused, receive-judged}
+use Rattle.receiving.proofs.Numbers.{answered-refused, answered-judged}
 use Rattle.receiving.proofs.BySymbol.{heard-judged}
 use Rattle.receiving.proofs.receive.Statement.{statement}
 use Rattle.receiving.proofs.receive.Tie as tie
@@ -44,8 +44,8 @@ returns : tie.Need-returns
 returns c =
     let e = c .before .before in
     let a = e .before .before .before .before .before .args in
-    receive-refused (a .p) (a .marks) (a .«data» .now) (a .«data» .now) (c .silence .result) (a .firsts .now) (a .seconds .now) (e .early .result)
-    (number e) (c .before .if1 .taken) (c .silence .ensures) refl
+    answered-refused (a .p) (a .marks) _ (decided (a .p) (a .firsts .now) (a .seconds .now)) (a .«data» .now) (a .«data» .now) (c .silence .result)
+    (e .early .result) (number e) (c .before .if1 .taken) (c .silence .ensures) refl
 
 heard-requires : tie.Need-heard-requires
 heard-requires c κs =
@@ -66,7 +66,7 @@ returns-2 c =
     let f = a .firsts .now in
     let s = a .seconds .now in
     let j = c .before .before .judge in
-    receive-judged (a .p) (a .marks) (a .«data» .now) _ (j .result) f s (sym (number (e .before)) ∙ e .if1 .left)
+    answered-judged (a .p) (a .marks) _ (decided (a .p) f s) (a .«data» .now) _ (j .result) (sym (number (e .before)) ∙ e .if1 .left)
     (heard-judged (a .p) (a .marks) f s (h .result) (a .«data» .now) _ (j .result) (ranges (a .p) (passed e .range) .mode)
     (heard-all (a .p .mode) f s (h .result) (h .ensures)) (j .ensures))
 
