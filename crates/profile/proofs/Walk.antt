@@ -16,6 +16,8 @@ use Rattle.rules.specs.Profile.{Field, fields, allGood, inRange, walk, reading,
 use Rattle.rules.specs.declared.Profile.{Profile}
 use Rattle.rules.specs.declared.Reading.{Reading}
 use Rattle.profile.specs.Fields.{none, many, field, heading, ending}
+use Rattle.profile.specs.Reader.{refusedAt, taken}
+use Rattle.profile.specs.declared.reader.Step.{Step}
 
 -- ---- what a header says, test by test
 
@@ -128,16 +130,10 @@ walk-end p s = go (eqb (length s) 0) (ltb (length s) 3)
     go false true = refl
     go false false = refl
 
--- ---- reading, turn by turn: from field i on, the walk over what is left answers
+-- ---- a field that is taken at a position
 
-pub record Walking (s : List ℕ) (p : Profile) (at i : ℕ) : Type 0 where
-  pub within : i ≤ many
-  pub rest : reading s ≡ walk (drop i fields) p (drop at s)
-
--- in a turn: the length that is due, and what the header says
+-- the length that is due, and what the header says
 pub record Judged (s : List ℕ) (p : Profile) (at i due n : ℕ) : Type 0 where
-  pub walking : Walking s p at i
-  pub more : i < many
   pub length-due : due ≡ field i .due p
   pub says : n ≡ heading (i + 1) due (drop at s)
 
@@ -146,35 +142,67 @@ module _ {s : List ℕ} {p : Profile} {at i due n : ℕ} (h : Judged s p at i du
   abbrev value : List ℕ
   value = take (at + 3 + due - (at + 3)) (drop (at + 3) s)
 
-  value-is : value ≡ take (field i .due p) (drop 3 (drop at s))
-  value-is = let l : at + 3 + due - (at + 3) ≡ field i .due p = omega arith in rw (l, drop-drop 3 at s)
+  judged : (q : Profile) → q ≡ field i .with p value
+      → taken i p s at
+      ≡ pick (eqb n 0) (pick (field i .good q) (record { number = 0; at = at + 3 + due; profile = q }) (refusedAt 4 at p)) (refusedAt n at p)
+  unfolding taken
+  judged q w =
+      let l : at + 3 + due - (at + 3) ≡ due = omega arith in
+      rw (w, l, h .says, h .length-due)
 
-  turn : (q : Profile) → q ≡ field i .with p value
-      → reading s ≡ pick (eqb n 0) (pick (field i .good q) (walk (drop (i + 1) fields) q (drop (at + 3 + due) s)) (refused 4)) (refused n)
-  turn q w =
-      h .walking .rest ∙ ap (λ (fs : List Field). walk fs p (drop at s)) (fields-at i (h .more))
-      ∙ walk-step (field i) (drop (i + 1) fields) p q (drop at s) (w ∙ ap (field i .with p) value-is)
-      ∙ rw (tag-at i (h .more), ← h .length-due, ← h .says, drop-drop (3 + due) at s, ← add-assoc at 3 due)
-
-  pub walk-refused : (n ≡ 0 → ⊥) → refused n ≡ reading s
-  walk-refused ne = sym (turn (field i .with p value) refl ∙ rw (ne-eqb n 0 ne))
+  pub taken-not : (n ≡ 0 → ⊥) → refusedAt n at p ≡ taken i p s at
+  taken-not ne = sym (judged (field i .with p value) refl ∙ rw (ne-eqb n 0 ne))
 
   module _ (z : n ≡ 0) where
-    pub walk-room : at + 3 + due ≤ length s
-    walk-room = omega (arith, heading-room (i + 1) due (drop at s) (sym (h .says) ∙ z), length-drop at s)
+    pub value-room : at + 3 + due ≤ length s
+    value-room = omega (arith, heading-room (i + 1) due (drop at s) (sym (h .says) ∙ z), length-drop at s)
 
     pub value-due : length value ≡ field i .due p
-    value-due = simp (length-take, length-drop) (omega (arith, walk-room))
+    value-due = simp (length-take, length-drop) (omega (arith, value-room))
 
     module _ {q : Profile} (w : q ≡ field i .with p value) where
-      judged : reading s ≡ pick (field i .good q) (walk (drop (i + 1) fields) q (drop (at + 3 + due) s)) (refused 4)
-      judged = turn q w ∙ rw (eq-eqb n 0 z)
+      pub taken-bad : field i .good q ≡ false → refusedAt 4 at p ≡ taken i p s at
+      taken-bad g = sym (judged q w ∙ rw (eq-eqb n 0 z, g))
 
-      pub walk-bad : field i .good q ≡ false → refused 4 ≡ reading s
-      walk-bad g = sym (judged ∙ rw g)
+      pub taken-good : field i .good q ≡ true → record { number = 0; at = at + 3 + due; profile = q } ≡ taken i p s at
+      taken-good g = sym (judged q w ∙ rw (eq-eqb n 0 z, g))
 
-      pub walk-more : field i .good q ≡ true → Walking s q (at + 3 + due) (i + 1)
-      walk-more g = record { within = omega arith; rest = judged ∙ rw g }
+-- ---- reading, turn by turn: from field i on, the walk over what is left answers
+
+pub record Walking (s : List ℕ) (p : Profile) (at i : ℕ) : Type 0 where
+  pub within : i ≤ many
+  pub rest : reading s ≡ walk (drop i fields) p (drop at s)
+
+module _ {s : List ℕ} {p : Profile} {at i : ℕ} (h : Walking s p at i) (more : i < many) where
+  turn : let t = taken i p s at in
+      reading s ≡ pick (eqb (t .number) 0) (walk (drop (i + 1) fields) (t .profile) (drop (t .at) s)) (refused (t .number))
+  unfolding taken
+  turn =
+      let f = field i in
+      let fs = drop (i + 1) fields in
+      let n = heading (i + 1) (f .due p) (drop at s) in
+      let q = f .with p (take (f .due p) (drop (at + 3) s)) in
+      h .rest ∙ ap (λ (l : List Field). walk l p (drop at s)) (fields-at i more)
+      ∙ walk-step f fs p q (drop at s) (rw (drop-drop 3 at s))
+      ∙ rw (tag-at i more, drop-drop (3 + f .due p) at s, ← add-assoc at 3 (f .due p)) (go n (eqb n 0) (f .good q) refl fs q (at + 3 + f .due p))
+    where
+      go : (n : ℕ) (b g : Bool) → eqb n 0 ≡ b → (fs : List Field) (q : Profile) (end : ℕ)
+          → let t = pick b (pick g (record { number = 0; at = end; profile = q }) (refusedAt 4 at p)) (refusedAt n at p) in
+          pick b (pick g (walk fs q (drop end s)) (refused 4)) (refused n)
+          ≡ pick (eqb (t .number) 0) (walk fs (t .profile) (drop (t .at) s)) (refused (t .number))
+      go n true true e fs q end = refl
+      go n true false e fs q end = refl
+      go n false g e fs q end = rw e
+
+  module _ {t : Step} (e : t ≡ taken i p s at) where
+    turned : reading s ≡ pick (eqb (t .number) 0) (walk (drop (i + 1) fields) (t .profile) (drop (t .at) s)) (refused (t .number))
+    turned = rw e turn
+
+    pub walk-refused : (t .number ≡ 0 → ⊥) → refused (t .number) ≡ reading s
+    walk-refused ne = sym (turned ∙ rw (ne-eqb (t .number) 0 ne))
+
+    pub walk-more : t .number ≡ 0 → Walking s (t .profile) (t .at) (i + 1)
+    walk-more z = record { within = omega arith; rest = turned ∙ rw (eq-eqb (t .number) 0 z) }
 
 -- after the last field
 module _ {s : List ℕ} {p : Profile} {at i : ℕ} (h : Walking s p at i) (le : many ≤ i) {n : ℕ} (e : n ≡ ending (drop at s)) where

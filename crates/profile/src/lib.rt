@@ -9,6 +9,7 @@ mod fields;
 mod header;
 mod numbers;
 mod ranges;
+mod reader;
 
 use fields::FIELDS;
 use rules::Profile;
@@ -61,17 +62,13 @@ pub fn read(bytes: &[u8]) -> Reading
     let mut at = 0;
     let mut i = 0;
     while i < FIELDS {
-        let due = fields::due(i, p);
-        let n = header::judge(bytes, at, (i + 1) as u8, due);
-        if n != 0 {
-            return refused(n);
+        let step = reader::field_at(bytes, at, i, p);
+        if step.number != 0 {
+            return refused(step.number);
         }
-        let next = at + 3 + due;
-        p = fields::with_value(i, p, &bytes[at + 3..next]);
-        if !fields::good(i, p) {
-            return refused(4);
-        }
-        at = next;
+        let next = step.profile;
+        p = next;
+        at = step.at;
         i += 1;
     }
     let n = header::ending(bytes, at);
