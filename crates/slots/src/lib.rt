@@ -1,11 +1,12 @@
 // Scrambling of a slot's bits. A bit is a byte that is 0 or 1; 2 is a doubtful one.
 ghost use mathlib.Core.Path.{_≡_};
-ghost use Prim.Native.Nat.{ℕ, _<_, _%_, _^_};
+ghost use Prim.Native.Nat.{ℕ, _<_, _≤_, _%_, _^_};
 ghost use lib.ListN.{length};
 ghost use Rattle.rules.specs.Bits.{row};
 ghost use Rattle.rules.specs.Slots.{scramblerStep, both, scrambling};
 ghost use Rattle.rules.specs.Block.{unscrambled};
 ghost use Rattle.laws.specs.Holds.{Holds};
+ghost use Rattle.laws.specs.Filled.{upTo};
 
 // The state after one step of the register.
 fn stepped(state: u32) -> u32
@@ -23,6 +24,44 @@ fn output(state: u32, mask: u32) -> u8
     (u32::count_ones(state & mask) % 2) as u8
 }
 
+// The first 20 of the scrambler's outputs, by the register; then zeros.
+fn first_outputs(seed: u32, mask: u32) -> [u8; 1000]
+    requires { ⌜ seed < 2 ^ 20 ⌝ }
+    ensures { λ r. ⌜ Holds 0 1000 (upTo 20 (scrambling seed mask) (λ k. 0)) r ⌝ }
+{
+    let mut out = [0u8; 1000];
+    let mut state = seed;
+    for i in 0..20 {
+        out[i] = output(state, mask);
+        state = stepped(state);
+    }
+    out
+}
+
+// The first 80. By h = D^20 + D^17 + 1 each is the sum of those 20 and 17 before it, whatever the mask.
+fn early_outputs(seed: u32, mask: u32) -> [u8; 1000]
+    requires { ⌜ seed < 2 ^ 20 ⌝ }
+    ensures { λ r. ⌜ Holds 0 1000 (upTo 80 (scrambling seed mask) (λ k. 0)) r ⌝ }
+{
+    let mut out = first_outputs(seed, mask);
+    for i in 20..80 {
+        out[i] = out[i - 20] ^ out[i - 17];
+    }
+    out
+}
+
+// Those for all bits of a slot. By h^4 = D^80 + D^68 + 1 each is the sum of those 80 and 68 before it, so far back that many are made at once.
+fn outputs(seed: u32, mask: u32) -> [u8; 1000]
+    requires { ⌜ seed < 2 ^ 20 ⌝ }
+    ensures { λ r. ⌜ Holds 0 1000 (scrambling seed mask) r ⌝ }
+{
+    let mut out = early_outputs(seed, mask);
+    for i in 80..1000 {
+        out[i] = out[i - 80] ^ out[i - 68];
+    }
+    out
+}
+
 // A bit with s added; a doubtful one stays doubtful.
 fn added(bit: u8, s: u8) -> u8
     requires { ⌜ s < 2 ⌝ }
@@ -34,14 +73,13 @@ fn added(bit: u8, s: u8) -> u8
     (bit % 2 + s) % 2
 }
 
-// Adds the scrambler's output to the bits, in place; a doubtful one stays doubtful. Done twice, it gives the bits back.
+// Adds the scrambler's output to the bits, at most a slot's, in place; a doubtful one stays doubtful. Done twice, it gives the bits back.
 pub fn scramble(seed: u32, mask: u32, bits: &mut [u8])
-    requires { ⌜ seed < 2 ^ 20 ⌝ }
+    requires { ⌜ (seed < 2 ^ 20) × (length (now bits) ≤ 1000) ⌝ }
     ensures { λ _. ⌜ Holds 0 (length (now (bits .entry))) (λ i. unscrambled (row (now (bits .entry)) i) (scrambling seed mask i)) (now (bits .exit)) ⌝ }
 {
-    let mut state = seed;
+    let out = outputs(seed, mask);
     for i in 0..bits.len() {
-        bits[i] = added(bits[i], output(state, mask));
-        state = stepped(state);
+        bits[i] = added(bits[i], out[i]);
     }
 }

@@ -1,11 +1,12 @@
 -- `block::scrambled` meets its contract. The loop's invariant: the slots before t are scrambled.
 use mathlib.Core.Path.{_≡_, refl, subst}
-use Prim.Native.Nat.{ℕ, _*_, _-_, _≤_}
+use Prim.Native.Nat.{ℕ, _+_, _*_, _-_, _≤_}
 use native.Mathlib.Omega.{arith}
 use Rattle.rules.specs.Bits.{row}
 use Rattle.rules.specs.Slots.{slots}
 use Rattle.laws.specs.Holds.{Holds}
 use Rattle.laws.specs.Filled.{holds-first}
+use Rattle.laws.specs.Parts.{part-long}
 use Rattle.block.specs.Steps.{scrambledRow}
 use Rattle.block.proofs.Ranges.{ranges}
 use Rattle.block.proofs.Scrambling.{scrambled-turn}
@@ -60,7 +61,9 @@ part-out-end c = omega (arith, c .before .loop .inv .1 .long)
 scramble-requires : tie.Need-scramble-requires Inv-loop μ-loop
 scramble-requires c κs =
     let s = c .before .before .before .before .before .before in
-    ranges (s .args .p) (s .pre) .seeds (c .before .before .loop .t) (omega arith)
+    let l = c .before .before .loop in
+    let long = part-long (1000 * l .t) (1000 * l .t + 1000) (l .out) (omega arith) (omega (arith, l .inv .1 .long)) in
+    (ranges (s .args .p) (s .pre) .seeds (l .t) (omega arith), omega arith)
 
 add-t : tie.Need-add-t Inv-loop μ-loop
 add-t c = omega arith
