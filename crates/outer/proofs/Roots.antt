@@ -3,6 +3,7 @@ use mathlib.Core.Path.{_≡_, refl, sym, ap, ap₂, _∙_, subst}
 use mathlib.Core.Bool.{Bool, true, false, _&&_, _||_, not}
 use Prim.Native.Nat.{ℕ, zero, suc, _+_, _-_, _≤_, _<_}
 use native.Mathlib.Nat.{add-sub-cancel-left}
+use native.Mathlib.Decide.{decLt}
 use native.Mathlib.Omega.{arith}
 use lib.Dec.{T, eqb, ltb, leb, lit<, lit≤, eqb→eq, ltb→lt}
 use lib.Ieee.Fits.{and-l, and-r}
@@ -128,6 +129,15 @@ codeword-zeros rate w = record { bytes = w .bytes; zeros = λ j l. codeword-root
 pub encoded-data : (r : ℕ) (d : ℕ → ℕ) (p : ℕ) → p < 16 - r → encoded r d p ≡ d p
 unfolding encoded
 encoded-data r d p h = rw (lt-ltb p (16 - r) h)
+
+-- a codeword goes by its first 16 - r bytes
+pub encoded-same : (r : ℕ) {d e : ℕ → ℕ} → ((p : ℕ) → p < 16 - r → d p ≡ e p) → (p : ℕ) → encoded r d p ≡ encoded r e p
+unfolding encoded
+encoded-same r {d} {e} same p = go (decLt p (16 - r))
+  where
+    go : Dec (p < 16 - r) → encoded r d p ≡ encoded r e p
+    go (yes lt) = encoded-data r d p lt ∙ same p lt ∙ sym (encoded-data r e p lt)
+    go (no ge) = rw (le-ltb p (16 - r) (omega arith)) (remainder-same r (16 - r) same (p - (16 - r)))
 
 pub encoded-parity : (r : ℕ) (d : ℕ → ℕ) (i : ℕ) → encoded r d (16 - r + i) ≡ remainder r d (16 - r) i
 unfolding encoded

@@ -1,18 +1,21 @@
 -- `cells::write_symbol` meets its contract. The loop's invariant: each of the two lists has the parts of the cells before c.
-use mathlib.Core.Path.{_∙_, ap}
+use mathlib.Core.Path.{refl, _∙_, ap}
 use Prim.Native.Nat.{_-_, _≤_}
 use native.Mathlib.Omega.{arith}
+use lib.ListN.{getD}
 use borrow.Author.Needs.{needs}
 use Rattle.rules.specs.Points.{zeroPart, firstPart, secondPart}
 use Rattle.cells.specs.Symbol.{symbolCell}
-use Rattle.laws.specs.Lists.{Filled, filled-none, filled-more, filled-all}
+use Rattle.laws.specs.Holds.{Holds}
+use Rattle.laws.specs.Filled.{upTo, holds-first, holds-next, holds-whole}
 use Rattle.cells.proofs.write_symbol.Statement.{statement}
 use Rattle.cells.proofs.write_symbol.Tie as tie
 
 abbrev Inv-loop : tie.InvT-loop
 Inv-loop mode level bits symbol firsts₀ seconds₀ c₀ firsts seconds c =
-    (c ≤ 4096) × Filled zeroPart 4096 (λ k. firstPart (symbolCell mode level bits symbol k)) c firsts
-    × Filled zeroPart 4096 (λ k. secondPart (symbolCell mode level bits symbol k)) c seconds
+    (c ≤ 4096)
+    × Holds zeroPart 4096 (upTo c (λ k. firstPart (symbolCell mode level bits symbol k)) (λ k. getD firsts₀ k zeroPart)) firsts
+    × Holds zeroPart 4096 (upTo c (λ k. secondPart (symbolCell mode level bits symbol k)) (λ k. getD seconds₀ k zeroPart)) seconds
 
 abbrev μ-loop : tie.MeasureT-loop
 μ-loop mode level bits symbol firsts₀ seconds₀ c₀ firsts seconds c = 4096 - c
@@ -20,7 +23,7 @@ abbrev μ-loop : tie.MeasureT-loop
 loop-holds : tie.Need-loop-holds Inv-loop μ-loop
 loop-holds c =
     let p = c .before .before .before .pre in
-    (search needs, filled-none _ _ _ _ (p .4), filled-none _ _ _ _ (p .5))
+    (search needs, holds-first _ _ zeroPart (record { long = p .4; each = λ k l. refl }), holds-first _ _ zeroPart (record { long = p .5; each = λ k l. refl }))
 
 cell-at-requires : tie.Need-cell-at-requires Inv-loop μ-loop
 cell-at-requires c κs = search needs
@@ -51,8 +54,8 @@ loop-again c =
     let e = c .before .cell-at .ensures in
     let inv = c .before .before .before .loop .inv in (
       omega arith,
-      filled-more _ (omega arith) (c .parts-of .ensures .0 ∙ ap firstPart e) (inv .1),
-      filled-more _ (omega arith) (c .parts-of .ensures .1 ∙ ap secondPart e) (inv .2),
+      holds-next _ _ zeroPart _ _ (omega arith) (c .parts-of .ensures .0 ∙ ap firstPart e) (inv .1),
+      holds-next _ _ zeroPart _ _ (omega arith) (c .parts-of .ensures .1 ∙ ap secondPart e) (inv .2),
     )
 
 same-length : tie.Need-same-length Inv-loop μ-loop
@@ -64,7 +67,7 @@ same-length-2 c = omega arith
 returns : tie.Need-returns Inv-loop μ-loop
 returns c =
     let inv = c .before .loop .inv in
-    record { firsts-are = filled-all (omega arith) (inv .1); seconds-are = filled-all (omega arith) (inv .2) }
+    record { firsts-are = holds-whole _ _ zeroPart _ (omega arith) (inv .1); seconds-are = holds-whole _ _ zeroPart _ (omega arith) (inv .2) }
 
 pub write-symbol-spec : {M : Type 1} → statement M
 write-symbol-spec =

@@ -1,19 +1,19 @@
 -- The loop's invariant: the first j columns are codewords, and the others are as they were.
-use mathlib.Core.Path.{_≡_, refl, sym, ap, ap₂, _∙_, subst}
+use mathlib.Core.Path.{_≡_, refl, sym, ap, _∙_, subst}
 use mathlib.Core.List.{List}
 use Prim.Native.Nat.{ℕ, _+_, _-_, _%_, _^_, _≤_, _<_}
 use native.Mathlib.Nat.{zero-div}
 use native.Mathlib.Decide.{ℕ-discrete, decLt}
-use lib.Dec.{T, ltb}
+use lib.Dec.{T}
 use lib.ListN.{length}
 use borrow.Author.Tests.{ne-eqb}
-use Rattle.rules.specs.Bits.{pick, row}
+use Rattle.rules.specs.Bits.{row}
 use Rattle.rules.specs.Outer.{column, encoded, marked, isK}
 use Rattle.laws.specs.Holds.{Holds}
 use Rattle.outer.specs.Solve.{kept}
 use Rattle.outer.specs.Steps.{Put}
 use Rattle.laws.specs.Filled.{upTo, upTo-below, upTo-from}
-use Rattle.outer.proofs.Roots.{k-range, passed, refused, remainder-same}
+use Rattle.outer.proofs.Roots.{k-range, passed, refused, encoded-same}
 use borrow.Author.Needs.{needs}
 use native.Mathlib.Omega.{arith}
 use Rattle.outer.proofs.fill_parity.Statement.{statement}
@@ -23,10 +23,6 @@ use Rattle.outer.proofs.fill_parity.Tie as tie
 abbrev Made : ℕ → ℕ → List ℕ → List ℕ → Type 0
 Made r n before after =
     (j : ℕ) → j < 122 → (p : ℕ) → p < 16 → column after j p ≡ upTo n (λ i. encoded r (column before i) p) (λ i. column before i p) j
-
-encoded-same : (r : ℕ) {d e : ℕ → ℕ} → ((p : ℕ) → p < 16 → d p ≡ e p) → (p : ℕ) → p < 16 → encoded r d p ≡ encoded r e p
-unfolding encoded
-encoded-same r s p l = ap₂ (pick (ltb p (16 - r))) (s p l) (remainder-same r (16 - r) (λ k m. s k (omega arith)) (p - (16 - r)))
 
 -- where no packet is lost, all bytes are kept
 all-kept : (c : ℕ → ℕ) (p : ℕ) → kept 0 c p ≡ c p
@@ -51,7 +47,7 @@ made-more r j before block after c w lt made hc hw put i l p m = go (ℕ-discret
     go : Dec (i ≡ j) → Dec (i < j) → column after i p ≡ upTo (j + 1) f g i
     go (yes e) d =
         subst (λ (i : ℕ). column after i p ≡ upTo (j + 1) f g i) (sym e)
-        (put .here p m ∙ hw .each p m ∙ encoded-same r stands p m ∙ sym (upTo-below f g (j + 1) j (omega arith)))
+        (put .here p m ∙ hw .each p m ∙ encoded-same r (λ q l. stands q (omega arith)) p ∙ sym (upTo-below f g (j + 1) j (omega arith)))
     go (no ne) (yes h) = put .there i l ne p m ∙ made i l p m ∙ upTo-below f g j i h ∙ sym (upTo-below f g (j + 1) i (omega arith))
     go (no ne) (no h) = put .there i l ne p m ∙ made i l p m ∙ upTo-from f g j i (omega arith) ∙ sym (upTo-from f g (j + 1) i (omega arith))
 
