@@ -4,13 +4,12 @@ ghost use Prim.Native.Nat.{_+_, _*_, _<_, _^_};
 ghost use lib.Dec.{T, eqb};
 ghost use lib.ListN.{length};
 ghost use Rattle.rules.specs.Bits.{pick, row};
-ghost use Rattle.rules.specs.Interleaver.{tableD, interleaved};
 ghost use Rattle.rules.specs.Outer as outerRule;
 ghost use Rattle.rules.specs.Outer.{isK, column};
-ghost use Rattle.rules.specs.Slots.{isMode, packetBits, slotBits, slots};
+ghost use Rattle.rules.specs.Slots.{isMode, packetBits};
 ghost use Rattle.rules.specs.Profile.{inRange};
 ghost use Rattle.rules.specs.Block.{understood, Delivered, Judged};
-ghost use Rattle.laws.specs.Holds.{Holds};
+ghost use Rattle.turbo.specs.Coded.{Addresses, Places};
 ghost use Rattle.receiving.specs.Steps.{Weighed, WeighedTo};
 use block::packet_bits;
 use block::scrambled;
@@ -35,8 +34,8 @@ fn marked(marks: u16, p: usize) -> u16
 }
 
 // One packet's judgement: a marked one is lost without a look at its bits.
-fn weigh(addresses: [u16; 994], mode: u8, mark: u16, v: &[u8]) -> Judgement
-    requires { ⌜ Holds 0 994 (interleaved 5 (row tableD) 994) addresses × T (isMode mode) × (length (now v) ≡ packetBits mode) ⌝ }
+fn weigh(addresses: &[u16], places: &[u16], mode: u8, mark: u16, v: &[u8]) -> Judgement
+    requires { ⌜ Addresses (now addresses) × Places mode (now places) × T (isMode mode) × (length (now v) ≡ packetBits mode) ⌝ }
     ensures { λ r. ⌜ Weighed mode mark (row (now (v .entry))) r ⌝ }
 {
     if mark == 1 {
@@ -45,7 +44,7 @@ fn weigh(addresses: [u16; 994], mode: u8, mark: u16, v: &[u8]) -> Judgement
             bytes: [0u8; 122],
         };
     }
-    turbo::judge_with(addresses, mode, v)
+    turbo::judge_with(addresses, places, mode, v)
 }
 
 // The lost mask with bit p, where packet p has a reason.
@@ -74,13 +73,20 @@ fn weigh_all(mode: u8, marks: u16, bits: [u8; 48000]) -> Verdicts
     ensures { λ r. ⌜ WeighedTo 16 mode marks (row bits) (r .lost) (r .reasons) (r .block) ⌝ }
 {
     let addresses = interleaver::addresses();
+    let places = turbo::places(mode);
     let n = packet_bits(mode);
     let mut lost = 0u16;
     let mut reasons = [0u8; 16];
     let mut block = [0u8; 1952];
     for p in 0..16 {
         let at = n * p;
-        let j = weigh(addresses, mode, marked(marks, p), &bits[at..at + n]);
+        let j = weigh(
+            &addresses,
+            &places,
+            mode,
+            marked(marks, p),
+            &bits[at..at + n],
+        );
         let bytes = j.bytes;
         let to = 122 * p;
         lost = with_lost(lost, p, j.reason);

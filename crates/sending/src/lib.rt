@@ -1,6 +1,6 @@
 // Sending a block: its bits, and its cells.
 ghost use mathlib.Core.Path.{_≡_};
-ghost use Prim.Native.Nat.{ℕ, _+_, _*_, _/_, _%_, _<_, _≤_};
+ghost use Prim.Native.Nat.{ℕ, _+_, _*_, _/_, _%_, _<_};
 ghost use lib.Dec.{T};
 ghost use lib.ListN.{length};
 ghost use Rattle.rules.specs.Bits.{row};
@@ -38,13 +38,15 @@ fn coded_bits(mode: u8, block: [u8; 1952]) -> [u8; 48000]
     ensures { λ r. ⌜ Holds 0 48000 (codedRow mode (packetBits mode * 16) block) r ⌝ }
 {
     let addresses = interleaver::addresses();
+    let places = turbo::places(mode);
     let n = packet_bits(mode);
     let mut bits = [0u8; 48000];
     for p in 0..16 {
         let from = 122 * p;
         let at = n * p;
         turbo::code_with(
-            addresses,
+            &addresses,
+            &places,
             mode,
             &block[from..from + 122],
             &mut bits[at..at + n],

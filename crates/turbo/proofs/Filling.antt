@@ -1,7 +1,7 @@
 -- The rows that the steps of encoding make are the streams.
 use mathlib.Core.Path.{_≡_, refl, sym, ap, _∙_}
 use Prim.Native.Nat.{ℕ, zero, suc, _+_, _-_, _<_, _≤_}
-use native.Mathlib.Nat.{zero-add}
+use native.Mathlib.Nat.{zero-add, sub-zero}
 use native.Mathlib.Numerals.{add-one}
 use native.Mathlib.Decide.{decLt}
 use native.Mathlib.Omega.{arith}
@@ -10,9 +10,9 @@ use Rattle.rules.specs.Bits.{row}
 use Rattle.rules.specs.Interleaver.{tableD, interleaved}
 use Rattle.rules.specs.Slots.{second}
 use Rattle.turbo.specs.Streams.{stream, placeFrom}
-use Rattle.turbo.specs.Within.{within, from, afterZeros, withData, withEnds, withStreams}
-use Rattle.turbo.proofs.Streams.{stream-data, stream-tail, stream-own, stream-bit, stream-same, stream-first, stream-second}
-use Rattle.turbo.proofs.Within.{within-before, within-after, within-in, within-bit}
+use Rattle.turbo.specs.Within.{within, from, afterZeros, withData, withEnds}
+use Rattle.turbo.proofs.Streams.{stream-data, stream-tail, stream-own, stream-same, stream-first, stream-second}
+use Rattle.turbo.proofs.Within.{within-before, within-after, within-in, within-bit, within-swap, ends-same}
 
 pub state-next : (x : ℕ → ℕ) (i : ℕ) → state x (i + 1) ≡ shift (entering (x i) (state x i)) (state x i)
 unfolding state
@@ -23,11 +23,8 @@ unfolding ending afterZeros
 ending-zeros x n zero = refl
 ending-zeros x n (suc k) = ap (shift 0) (ending-zeros x n k)
 
--- an encoder's two streams, filled in from a on
-module _ (a : ℕ) (g : ℕ → ℕ) where
-  abbrev x : ℕ → ℕ
-  x = from g a
-
+-- the two streams of an encoder that reads x, filled in from a on
+module _ (a : ℕ) (x g : ℕ → ℕ) (reads : (i : ℕ) → i < 994 → from g a i ≡ x i) where
   abbrev lastX : ℕ → ℕ
   lastX k = feedback (afterZeros (state x 994) k)
 
@@ -44,7 +41,7 @@ module _ (a : ℕ) (g : ℕ → ℕ) where
   at-own : (k : ℕ) → a ≤ k → k < a + 994 → g k ≡ stream x x (k - a)
   at-own k le lt =
       let there : k ≡ a + (k - a) = omega arith in
-      ap g there ∙ sym (stream-own x x (k - a) (omega arith))
+      ap g there ∙ reads (k - a) (omega arith) ∙ sym (stream-own x x (k - a) (omega arith))
 
   at-lastX : (k : ℕ) → a + 994 ≤ k → k < a + 997 → lastX (k - (a + 994)) ≡ stream x x (k - a)
   at-lastX k le lt =
@@ -61,7 +58,7 @@ module _ (a : ℕ) (g : ℕ → ℕ) where
       let there : placeFrom 994 (at Y0 (k - (a + 1991))) ≡ k - a = omega arith in
       ap (parityOf 0) (sym (ending-zeros x 994 _)) ∙ sym (stream-tail x x (at Y0 (k - (a + 1991))) (omega arith)) ∙ ap (stream x x) there
 
-  pub with-streams : (k : ℕ) → withEnds a (state x 994) walked k ≡ withStreams a g k
+  with-streams : (k : ℕ) → withEnds a (state x 994) walked k ≡ within a 1994 (stream x x) g k
   with-streams k = go (decLt k a) (decLt k (a + 994)) (decLt k (a + 997)) (decLt k (a + 1991)) (decLt k (a + 1994))
     where
       before : k < a + 994 → withEnds a (state x 994) walked k ≡ g k
@@ -74,7 +71,7 @@ module _ (a : ℕ) (g : ℕ → ℕ) where
           → Dec (k < a + 997)
           → Dec (k < a + 1991)
           → Dec (k < a + 1994)
-          → withEnds a (state x 994) walked k ≡ withStreams a g k
+          → withEnds a (state x 994) walked k ≡ within a 1994 (stream x x) g k
       go (yes p) q r s t = before (omega arith) ∙ sym (within-before a 1994 (stream x x) g k p)
       go (no p) (yes q) r s t = before q ∙ at-own k (omega arith) q ∙ sym (within-in a 1994 (stream x x) g k (omega arith) (omega arith))
       go (no p) (no q) (yes r) s t =
@@ -97,41 +94,52 @@ pub data-bit : (x : ℕ → ℕ) → ((i : ℕ) → x i < 2) → (k : ℕ) → w
 data-bit x bit k =
     within-bit 0 994 x _ k bit (within-bit 1994 994 (second x) (λ j. 0) k (λ j. bit (interleaved 5 (row tableD) 994 j)) (omega arith))
 
-pub half-bit : (a : ℕ) (g : ℕ → ℕ) → ((i : ℕ) → g i < 2) → (k : ℕ) → withStreams a g k < 2
-half-bit a g bit k =
-    within-bit a 1994 (stream (from g a) (from g a)) g k (stream-bit (from g a) (from g a) (λ i lt. bit (a + i)) (λ i lt. bit (a + i))) (bit k)
+-- f has the data of both
+module _ (x f : ℕ → ℕ) (entered : (k : ℕ) → k < 3988 → f k ≡ withData x k) where
+  first-reads : (i : ℕ) → i < 994 → f i ≡ x i
+  first-reads i lt = entered i (omega arith) ∙ within-in 0 994 x _ i (omega arith) (omega arith) ∙ ap x (sub-zero i)
 
--- f has the data of both, g the first encoder's streams too
-module _ (x f g : ℕ → ℕ)
-    (entered : (k : ℕ) → k < 3988 → f k ≡ withData x k)
-    (half-way : (k : ℕ) → k < 3988 → g k ≡ withStreams 0 f k) where
-  first-reads : (i : ℕ) → i < 994 → from f 0 i ≡ x i
-  first-reads i lt =
-      let back : 0 + i - 0 ≡ i = omega arith in
-      entered (0 + i) (omega arith) ∙ within-in 0 994 x _ (0 + i) (omega arith) (omega arith) ∙ ap x back
-
-  second-reads : (i : ℕ) → i < 994 → from g 1994 i ≡ second x i
+  second-reads : (i : ℕ) → i < 994 → from f 1994 i ≡ second x i
   second-reads i lt =
       let back : 1994 + i - 1994 ≡ i = omega arith in
-      half-way (1994 + i) (omega arith) ∙ within-after 0 1994 _ f (1994 + i) (omega arith) ∙ entered (1994 + i) (omega arith)
-      ∙ within-after 0 994 x _ (1994 + i) (omega arith) ∙ within-in 1994 994 (second x) _ (1994 + i) (omega arith) (omega arith)
-      ∙ ap (second x) back
+      entered (1994 + i) (omega arith) ∙ within-after 0 994 x _ (1994 + i) (omega arith)
+      ∙ within-in 1994 994 (second x) _ (1994 + i) (omega arith) (omega arith) ∙ ap (second x) back
 
-  pub both-streams : (k : ℕ) → k < 3988 → withStreams 1994 g k ≡ stream x (second x) k
-  both-streams k lt = go (decLt k 1994)
+  pub data-streams : (k : ℕ) → stream f (from f 1994) k ≡ stream x (second x) k
+  data-streams = stream-same f (from f 1994) x (second x) first-reads second-reads
+
+-- g has the data, l the parities too, and m the first encoder's ends
+module _ (g l m : ℕ → ℕ) where
+  abbrev x' : ℕ → ℕ
+  x' = from g 1994
+
+  abbrev second-walked : ℕ → ℕ
+  second-walked = within 2991 994 (y0 x') g
+
+  abbrev first-done : ℕ → ℕ
+  first-done = within 0 1994 (stream g g) g
+
+  pub both-streams : ((k : ℕ) → k < 3988 → l k ≡ within 997 994 (y0 g) second-walked k)
+      → ((k : ℕ) → k < 3988 → m k ≡ withEnds 0 (state g 994) l k)
+      → (k : ℕ)
+      → k < 3988
+      → withEnds 1994 (state x' 994) m k ≡ stream g x' k
+  both-streams walked first-ended k lt =
+      ends-same 1994 (state x' 994) m (within 2991 994 (y0 x') first-done) k half-way
+      ∙ with-streams 1994 x' first-done (λ i below. within-after 0 1994 (stream g g) g (1994 + i) (omega arith)) k ∙ go (decLt k 1994)
     where
-      y : ℕ → ℕ
-      y = from f 0
+      half-way : m k ≡ within 2991 994 (y0 x') first-done k
+      half-way =
+          first-ended k lt ∙ ends-same 0 (state g 994) l _ k (walked k lt)
+          ∙ with-streams 0 g second-walked
+          (λ i below. within-before 2991 994 (y0 x') g (0 + i) (omega arith) ∙ ap g (zero-add i)) k
+          ∙ within-swap 0 1994 2991 994 (stream g g) (y0 x') g k (omega arith)
 
-      z : ℕ → ℕ
-      z = from g 1994
-
-      go : Dec (k < 1994) → withStreams 1994 g k ≡ stream x (second x) k
+      go : Dec (k < 1994) → within 1994 1994 (stream x' x') first-done k ≡ stream g x' k
       go (yes h) =
-          let back : k - 0 ≡ k = omega arith in
-          within-before 1994 1994 (stream z z) g k h ∙ half-way k lt ∙ within-in 0 1994 (stream y y) f k (omega arith) (omega arith)
-          ∙ ap (stream y y) back ∙ stream-same y y x y first-reads (λ i lt. refl) k ∙ stream-first x y (second x) k h
+          within-before 1994 1994 (stream x' x') first-done k h ∙ within-in 0 1994 (stream g g) g k (omega arith) (omega arith)
+          ∙ ap (stream g g) (sub-zero k) ∙ stream-first g g x' k h
       go (no h) =
           let whole : 1994 + (k - 1994) ≡ k = omega arith in
-          within-in 1994 1994 (stream z z) g k (omega arith) (omega arith) ∙ stream-same z z (second x) z second-reads (λ i lt. refl) (k - 1994)
-          ∙ sym (stream-second x (second x) z (k - 1994) (omega arith)) ∙ ap (stream x (second x)) whole
+          within-in 1994 1994 (stream x' x') first-done k (omega arith) (omega arith)
+          ∙ sym (stream-second g x' x' (k - 1994) (omega arith)) ∙ ap (stream g x') whole

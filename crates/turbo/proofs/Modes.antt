@@ -1,18 +1,20 @@
 -- A packet's coded bits in each mode: places among the streams, read through the bit interleaver. All that a mode has to pass is one computed test.
-use mathlib.Core.Path.{_≡_, sym, ap, ap₂, _∙_}
+use mathlib.Core.Path.{_≡_, refl, sym, ap, ap₂, _∙_}
+use mathlib.Core.Bool.{Bool, true, false}
+use mathlib.Core.List.{List}
 use Prim.Native.Nat.{ℕ, _+_, _*_, _/_, _%_, _<_, _≤_}
 use native.Mathlib.Nat.{mod-lt, div-add-mod, div-lt-iff-lt-mul, mul-le-mul-left}
 use native.Mathlib.Omega.{arith}
-use lib.Dec.{T, eqb, ltb→lt, eqb→eq}
-use Rattle.rules.specs.Bits.{row}
+use lib.Dec.{T, eqb}
+use Rattle.rules.specs.Bits.{pick, row}
 use Rattle.rules.specs.Interleaver.{tableD, interleaved, bitInterleaved, bitDeinterleaved}
-use Rattle.rules.specs.Turbo.{codedLength, codedBit, dataPlace}
+use Rattle.rules.specs.Turbo.{half, third, codedLength, codedBit, dataPlace}
 use Rattle.rules.specs.Slots.{isMode, rate, packetBits, second, coded}
 use Rattle.rules.specs.Block.{decidedData}
-use Rattle.laws.specs.Every.{every-at}
+use Rattle.laws.specs.Filled.{upTo-below}
 use Rattle.interleaver.proofs.Interleaving.{interleaved5-lt}
 use Rattle.turbo.specs.Streams.{stream, place}
-use Rattle.turbo.specs.Coded.{sameBits, sentFrom}
+use Rattle.turbo.specs.Coded.{Places, sameBits, sentPlace, sentFrom}
 use Rattle.turbo.proofs.Checks.{every-same}
 use Rattle.turbo.proofs.Streams.{coded-stream, place-lt, own-coded, stream-bit, stream-same}
 
@@ -55,15 +57,21 @@ streams-same x y same = stream-same x (second x) y (second y) same (second-same 
 pub streams-bit : (x : ℕ → ℕ) → ((i : ℕ) → i < 994 → x i < 2) → (k : ℕ) → stream x (second x) k < 2
 streams-bit x bit = stream-bit x (second x) bit (λ i lt. bit (interleaved 5 (row tableD) 994 i) (interleaved5-lt i lt))
 
--- ---- each mode
+-- ---- the places, of mode 0 and of any other number
 
-module _ (m : ℕ) (mode : T (isMode m)) where
-  -- two computed tests: four divides the number of bits, and it is the number that the rate makes
+-- four divides the number of bits, it is the number that the rate makes, and the table has room for it
+sizes : (first : Bool)
+    → let n : ℕ = pick first 3000 2000 in
+    (n ≡ 4 * (n / 4)) × (codedLength (pick first third half) 994 ≡ n) × (n ≤ 3000)
+sizes true = (refl, refl, omega arith)
+sizes false = (refl, refl, omega arith)
+
+module _ (m : ℕ) where
   whole : packetBits m ≡ 4 * (packetBits m / 4)
-  whole = eqb→eq _ _ (every-at 2 (λ k. eqb (packetBits k) (4 * (packetBits k / 4))) tt m (ltb→lt m 2 mode))
+  whole = sizes (eqb m 0) .0
 
   long : codedLength (rate m) 994 ≡ packetBits m
-  long = eqb→eq _ _ (every-at 2 (λ k. eqb (codedLength (rate k) 994) (packetBits k)) tt m (ltb→lt m 2 mode))
+  long = sizes (eqb m 0) .1
 
   -- which of the bits before the bit interleaver is sent as bit i, and where that stands in the streams
   pub source-lt : (i : ℕ) → i < packetBits m → bitInterleaved (packetBits m) i < packetBits m
@@ -72,17 +80,28 @@ module _ (m : ℕ) (mode : T (isMode m)) where
   pub rate-place-lt : (n : ℕ) → n < packetBits m → place (rate m) n < 3988
   rate-place-lt n lt = place-lt (rate m) n (rw long lt)
 
+  -- what the table has
+  module _ (l : List ℕ) (held : Places m l) where
+    pub place-read : (i : ℕ) → i < packetBits m → row l i ≡ sentPlace m i
+    place-read i lt = held .each i (omega (arith, sizes (eqb m 0) .2)) ∙ upTo-below (sentPlace m) (λ k. 0) (packetBits m) i lt
+
+    pub place-read-lt : (i : ℕ) → i < packetBits m → row l i < 3988
+    place-read-lt i lt = rw (place-read i lt) (rate-place-lt _ (source-lt i lt))
+
+-- ---- what is sent in each mode
+
+module _ (m : ℕ) (mode : T (isMode m)) where
   -- where bit i of x itself is sent
   own-lt : (i : ℕ) → i < 994 → dataPlace (rate m) i < packetBits m
-  own-lt i lt = rw long at (own-coded (rate m) (λ k. 0) (λ k. 0) i lt .0)
+  own-lt i lt = rw (long m) at (own-coded (rate m) (λ k. 0) (λ k. 0) i lt .0)
 
   pub sent-lt : (i : ℕ) → i < 994 → bitDeinterleaved (packetBits m) (dataPlace (rate m) i) < packetBits m
-  sent-lt i lt = deinterleaved-lt (packetBits m) whole (dataPlace (rate m) i) (own-lt i lt)
+  sent-lt i lt = deinterleaved-lt (packetBits m) (whole m) (dataPlace (rate m) i) (own-lt i lt)
 
   -- bit i of what is sent, in the streams
-  pub coded-at : (x : ℕ → ℕ) (i : ℕ) → i < packetBits m → coded m x i ≡ stream x (second x) (place (rate m) (bitInterleaved (packetBits m) i))
+  pub coded-at : (x : ℕ → ℕ) (i : ℕ) → i < packetBits m → coded m x i ≡ stream x (second x) (sentPlace m i)
   unfolding coded
-  coded-at x i lt = coded-stream (rate m) x (second x) (bitInterleaved (packetBits m) i) (rw long (source-lt i lt))
+  coded-at x i lt = coded-stream (rate m) x (second x) (bitInterleaved (packetBits m) i) (rw (long m) (source-lt m i lt))
 
   -- and in any row that has them
   pub sent-coded : (x g : ℕ → ℕ)
@@ -90,22 +109,22 @@ module _ (m : ℕ) (mode : T (isMode m)) where
       → (i : ℕ)
       → i < packetBits m
       → sentFrom m g i ≡ coded m x i
-  sent-coded x g has i lt = has _ (rate-place-lt _ (source-lt i lt)) ∙ sym (coded-at x i lt)
+  sent-coded x g has i lt = has _ (rate-place-lt m _ (source-lt m i lt)) ∙ sym (coded-at x i lt)
 
   -- the data that the sent bits decide to
   pub decided-coded : (x : ℕ → ℕ) (i : ℕ) → i < 994 → decidedData m (coded m x) i ≡ x i
   unfolding coded
   decided-coded x i lt =
-      ap (codedBit (rate m) x (second x) 994) (deinterleaved-back (packetBits m) whole (dataPlace (rate m) i) (own-lt i lt))
+      ap (codedBit (rate m) x (second x) 994) (deinterleaved-back (packetBits m) (whole m) (dataPlace (rate m) i) (own-lt i lt))
       ∙ own-coded (rate m) x (second x) i lt .1
 
   -- what is sent goes by the 994 bits, and is bits
   pub coded-same : (x y : ℕ → ℕ) → ((i : ℕ) → i < 994 → x i ≡ y i) → (i : ℕ) → i < packetBits m → coded m x i ≡ coded m y i
   coded-same x y same i lt =
-      coded-at x i lt ∙ streams-same x y same (place (rate m) (bitInterleaved (packetBits m) i)) ∙ sym (coded-at y i lt)
+      coded-at x i lt ∙ streams-same x y same (sentPlace m i) ∙ sym (coded-at y i lt)
 
   pub coded-bit : (x : ℕ → ℕ) → ((i : ℕ) → i < 994 → x i < 2) → (i : ℕ) → i < packetBits m → coded m x i < 2
-  coded-bit x bit i lt = rw (coded-at x i lt) (streams-bit x bit (place (rate m) (bitInterleaved (packetBits m) i)))
+  coded-bit x bit i lt = rw (coded-at x i lt) (streams-bit x bit (sentPlace m i))
 
   -- so bits are compared with what is sent by comparing them with the streams of the same 994 bits
   pub sent-same : (v x y g : ℕ → ℕ)

@@ -54,6 +54,16 @@ within-same : (a n : ℕ) (f g h : ℕ → ℕ) (k : ℕ) → g k ≡ h k → wi
 unfolding within
 within-same a n f g h k e = ap (λ (y : ℕ). pick (ltb k a) y (pick (ltb k (a + n)) (f (k - a)) y)) e
 
+-- two parts that don't overlap, in either order
+pub within-swap : (a n b m : ℕ) (f h g : ℕ → ℕ) (k : ℕ) → a + n ≤ b → within a n f (within b m h g) k ≡ within b m h (within a n f g) k
+within-swap a n b m f h g k apart = go (decLt k b)
+  where
+    go : Dec (k < b) → within a n f (within b m h g) k ≡ within b m h (within a n f g) k
+    go (yes lt) = within-same a n f (within b m h g) g k (within-before b m h g k lt) ∙ sym (within-before b m h (within a n f g) k lt)
+    go (no ge) =
+        within-after a n f (within b m h g) k (omega arith)
+        ∙ within-same b m h g (within a n f g) k (sym (within-after a n f g k (omega arith)))
+
 pub ends-same : (a s : ℕ) (g h : ℕ → ℕ) (k : ℕ) → g k ≡ h k → withEnds a s g k ≡ withEnds a s h k
 ends-same a s g h k e = within-same (a + 994) 3 _ _ _ k (within-same (a + 1991) 3 _ g h k e)
 

@@ -7,7 +7,7 @@ use lib.Dec.{T, eqb, ltb}
 use lib.ListN.{length, replicate}
 use Rattle.rules.specs.Bits.{row, everyBelow}
 use Rattle.rules.specs.Packet.{packetBit}
-use Rattle.rules.specs.Interleaver.{bitInterleaved}
+use Rattle.rules.specs.Interleaver.{tableD, interleaved, bitInterleaved}
 use Rattle.rules.specs.Points.{doubtful}
 use Rattle.rules.specs.Slots.{isMode, rate, packetBits, coded}
 use Rattle.rules.specs.Block.{verdict, decidedData, byteOf}
@@ -15,6 +15,7 @@ use Rattle.rules.specs.declared.Coding.{Coding}
 use Rattle.rules.specs.declared.Coding.the-variants.{Coded, WrongMode, WrongLength}
 use Rattle.rules.specs.declared.Judgement.{Judgement}
 use Rattle.laws.specs.Holds.{Holds}
+use Rattle.laws.specs.Filled.{upTo}
 use Rattle.turbo.specs.Streams.{place}
 
 -- coding 122 bytes into as many bits as a packet of the mode has; what is too short or too long is refused and nothing is written
@@ -31,9 +32,20 @@ plainBits n v = everyBelow n (λ i. ltb (v i) doubtful)
 abbrev pub sameBits : ℕ → (ℕ → ℕ) → (ℕ → ℕ) → Bool
 sameBits n v w = everyBelow n (λ i. eqb (v i) (w i))
 
+-- the place, among the four streams, of what is sent as bit i
+abbrev pub sentPlace : ℕ → ℕ → ℕ
+sentPlace m i = place (rate m) (bitInterleaved (packetBits m) i)
+
 -- bit i of what is sent, where g has the streams
 abbrev pub sentFrom : ℕ → (ℕ → ℕ) → ℕ → ℕ
-sentFrom m g i = g (place (rate m) (bitInterleaved (packetBits m) i))
+sentFrom m g i = g (sentPlace m i)
+
+-- the two tables that serve every packet of a block: the interleaver's addresses, and the places of what is sent
+abbrev pub Addresses : List ℕ → Type 0
+Addresses l = Holds 0 994 (interleaved 5 (row tableD) 994) l
+
+abbrev pub Places : ℕ → List ℕ → Type 0
+Places m l = Holds 0 3000 (upTo (packetBits m) (sentPlace m) (λ i. 0)) l
 
 -- judging a packet's decided bits, 2 for a doubtful one
 pub record JudgingRule (m : ℕ) (v : ℕ → ℕ) (a : Judgement) : Type 0 where

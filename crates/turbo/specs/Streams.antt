@@ -1,6 +1,5 @@
 -- All that the two encoders put out for 994 bits, side by side: four streams of 997 (994 bits, then the three periods that end an encoder), X, Y0, X', Y'0.
 -- What is sent at any rate is then a choice of places in this row.
-use mathlib.Core.List.{List}
 use Prim.Native.Nat.{ℕ, _+_, _-_, _*_, _/_, _%_}
 use lib.Dec.{eqb, ltb}
 use lib.ListN.{length, getD}

@@ -5,7 +5,6 @@ use lib.Dec.{ltb}
 use Rattle.rules.specs.Bits.{pick}
 use Rattle.rules.specs.Turbo.{feedback, parityOf, shift}
 use Rattle.rules.specs.Slots.{second}
-use Rattle.turbo.specs.Streams.{stream}
 use Rattle.turbo.specs.declared.Period.{Period}
 
 -- g, but the first n elements of f from a on
@@ -28,10 +27,6 @@ withData x = within 0 994 x (within 1994 994 (second x) (λ k. 0))
 -- g with the ends of the two streams that begin at a, of an encoder whose register has come to s
 abbrev pub withEnds : ℕ → ℕ → (ℕ → ℕ) → ℕ → ℕ
 withEnds a s g = within (a + 994) 3 (λ k. feedback (afterZeros s k)) (within (a + 1991) 3 (λ k. parityOf 0 (afterZeros s k)) g)
-
--- g with both streams of the encoder that reads the bits at a
-abbrev pub withStreams : ℕ → (ℕ → ℕ) → ℕ → ℕ
-withStreams a g = within a 1994 (stream (from g a) (from g a)) g
 
 -- one period: x is put out, and a enters register s
 pub record Puts (x a s : ℕ) (p : Period) : Type 0 where

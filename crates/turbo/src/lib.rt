@@ -1,11 +1,11 @@
 // One packet's coded bits, and the judgement on decided ones. A bit is a byte that is 0 or 1.
 ghost use mathlib.Core.Path.{_≡_};
 ghost use mathlib.Core.Bool.{_&&_};
-ghost use Prim.Native.Nat.{ℕ, _+_, _≤_, _<_};
+ghost use Prim.Native.Nat.{_+_, _≤_, _<_};
 ghost use lib.Dec.{T};
 ghost use lib.ListN.{length, replicate};
 ghost use Rattle.rules.specs.Bits.{row};
-ghost use Rattle.rules.specs.Interleaver.{tableD, interleaved, bitInterleaved, bitDeinterleaved};
+ghost use Rattle.rules.specs.Interleaver.{bitDeinterleaved};
 ghost use Rattle.rules.specs.Turbo as rule;
 ghost use Rattle.rules.specs.Turbo.{half, third};
 ghost use Rattle.rules.specs.Slots.{isMode, rate, packetBits, second};
@@ -14,8 +14,8 @@ ghost use Rattle.laws.specs.Holds.{Holds};
 ghost use Rattle.laws.specs.Rows.{Bits};
 ghost use Rattle.turbo.specs.Streams as streams;
 ghost use Rattle.turbo.specs.Streams.{stream};
-ghost use Rattle.turbo.specs.Within.{withData, withEnds, withStreams, Puts};
-ghost use Rattle.turbo.specs.Coded.{CodingRule, JudgingRule, plainBits, sameBits, sentFrom};
+ghost use Rattle.turbo.specs.Within.{from, withData, withEnds, Puts};
+ghost use Rattle.turbo.specs.Coded.{CodingRule, JudgingRule, Addresses, Places, plainBits, sameBits, sentPlace, sentFrom};
 use rules::Coding;
 use rules::Judgement;
 
@@ -61,7 +61,7 @@ fn place_half(n: usize) -> usize
 
 // The place, among the four streams, of bit n of what is sent.
 fn place(mode: u8, n: usize) -> usize
-    requires { ⌜ T (isMode mode) × (n < packetBits mode) ⌝ }
+    requires { ⌜ n < packetBits mode ⌝ }
     ensures { λ r. ⌜ (r ≡ streams.place (rate mode) n) × (r < 3988) ⌝ }
 {
     if mode == 0 {
@@ -79,11 +79,23 @@ fn packet_bits(mode: u8) -> usize
 
 // The place of what is sent as bit i: four columns are written down and read row by row.
 fn sent_place(mode: u8, i: usize) -> usize
-    requires { ⌜ T (isMode mode) × (i < packetBits mode) ⌝ }
-    ensures { λ r. ⌜ (r ≡ streams.place (rate mode) (bitInterleaved (packetBits mode) i)) × (r < 3988) ⌝ }
+    requires { ⌜ i < packetBits mode ⌝ }
+    ensures { λ r. ⌜ (r ≡ sentPlace mode i) × (r < 3988) ⌝ }
 {
     let rows = packet_bits(mode) / 4;
     place(mode, rows * (i % 4) + i / 4)
+}
+
+// The places of all that is sent for a packet, and zeros after them. They are the same for every packet.
+pub fn places(mode: u8) -> [u16; 3000]
+    ensures { λ r. ⌜ Places mode r ⌝ }
+{
+    let n = packet_bits(mode);
+    let mut out = [0u16; 3000];
+    for i in 0..n {
+        out[i] = sent_place(mode, i) as u16;
+    }
+    out
 }
 
 // As which bit the packet's own bit i is sent.
@@ -178,26 +190,32 @@ fn ended(all: [u8; 3988], base: usize, register: u8) -> [u8; 3988]
     s
 }
 
-// One encoder's two streams: X is at base, and Y0 after it is filled in, with the ends of both.
-fn encoded(all: [u8; 3988], base: usize) -> [u8; 3988]
-    requires { ⌜ (base + 1994 ≤ 3988) × Bits all ⌝ }
-    ensures { λ r. ⌜ Holds 0 3988 (withStreams base (row all)) r ⌝ }
+// Both encoders' streams: X and X' are there, and Y0 and Y'0 are filled in, with the ends of all four. A turn has a period of each
+// encoder, since neither waits for the other.
+fn encoded(all: [u8; 3988]) -> [u8; 3988]
+    requires { ⌜ Bits all ⌝ }
+    ensures { λ r. ⌜ Holds 0 3988 (stream (row all) (from (row all) 1994)) r ⌝ }
 {
     let mut s = all;
-    let mut register = 0u8;
+    let mut first = 0u8;
+    let mut second = 0u8;
     let mut i = 0;
     while i < 994 {
-        let p = data_period(s[base + i], register);
-        s[base + 997 + i] = p.y0;
-        register = p.register;
+        let p = data_period(s[i], first);
+        let q = data_period(s[1994 + i], second);
+        s[997 + i] = p.y0;
+        s[2991 + i] = q.y0;
+        first = p.register;
+        second = q.register;
         i = i + 1;
     }
-    ended(s, base, register)
+    let s = ended(s, 0, first);
+    ended(s, 1994, second)
 }
 
 // The 994 bits that each encoder reads, at the beginning of X and of X'.
-fn entered(x: [u8; 994], addresses: [u16; 994]) -> [u8; 3988]
-    requires { ⌜ Holds 0 994 (interleaved 5 (row tableD) 994) addresses ⌝ }
+fn entered(addresses: &[u16], x: [u8; 994]) -> [u8; 3988]
+    requires { ⌜ Addresses (now addresses) ⌝ }
     ensures { λ r. ⌜ Holds 0 3988 (withData (row x)) r ⌝ }
 {
     let mut s = [0u8; 3988];
@@ -211,23 +229,22 @@ fn entered(x: [u8; 994], addresses: [u16; 994]) -> [u8; 3988]
 }
 
 // The four streams of 994 bits; the addresses are the interleaver's.
-fn streams_of(x: [u8; 994], addresses: [u16; 994]) -> [u8; 3988]
-    requires { ⌜ Bits x × Holds 0 994 (interleaved 5 (row tableD) 994) addresses ⌝ }
+fn streams_of(addresses: &[u16], x: [u8; 994]) -> [u8; 3988]
+    requires { ⌜ Addresses (now addresses) × Bits x ⌝ }
     ensures { λ r. ⌜ Holds 0 3988 (stream (row x) (second (row x))) r ⌝ }
 {
-    let s = entered(x, addresses);
-    let s = encoded(s, 0);
-    encoded(s, 1994)
+    encoded(entered(addresses, x))
 }
 
 // What is sent, taken from the streams.
-fn send(mode: u8, all: [u8; 3988], out: &mut [u8])
-    requires { ⌜ T (isMode mode) × (length (now out) ≡ packetBits mode) ⌝ }
+fn send(places: &[u16], mode: u8, all: [u8; 3988], out: &mut [u8])
+    requires { ⌜ Places mode (now places) × (length (now out) ≡ packetBits mode) ⌝ }
     ensures { λ r. ⌜ Holds 0 (packetBits mode) (sentFrom mode (row all)) (now (out .exit)) ⌝ }
 {
+    let n = packet_bits(mode);
     let mut i = 0;
-    while i < out.len() {
-        out[i] = all[sent_place(mode, i)];
+    while i < n {
+        out[i] = all[wide(places[i])];
         i = i + 1;
     }
 }
@@ -245,9 +262,9 @@ fn without_tail(bits: [u8; 1000]) -> [u8; 994]
     x
 }
 
-// One packet of 122 bytes, coded and interleaved; the addresses are the interleaver's.
-pub fn code_with(addresses: [u16; 994], mode: u8, data: &[u8], out: &mut [u8]) -> Coding
-    requires { ⌜ Holds 0 994 (interleaved 5 (row tableD) 994) addresses ⌝ }
+// One packet of 122 bytes, coded and interleaved; the addresses are the interleaver's, and the places the mode's.
+pub fn code_with(addresses: &[u16], places: &[u16], mode: u8, data: &[u8], out: &mut [u8]) -> Coding
+    requires { ⌜ Addresses (now addresses) × Places mode (now places) ⌝ }
     ensures { λ r. ⌜ CodingRule mode (now («data» .entry)) (now (out .entry)) (now (out .exit)) r ⌝ }
 {
     if mode > 1 {
@@ -260,7 +277,7 @@ pub fn code_with(addresses: [u16; 994], mode: u8, data: &[u8], out: &mut [u8]) -
         return Coding::WrongLength;
     }
     let x = without_tail(packet::bits_of(data));
-    send(mode, streams_of(x, addresses), out);
+    send(places, mode, streams_of(addresses, x), out);
     Coding::Coded
 }
 
@@ -268,7 +285,9 @@ pub fn code_with(addresses: [u16; 994], mode: u8, data: &[u8], out: &mut [u8]) -
 pub fn code(mode: u8, data: &[u8], out: &mut [u8]) -> Coding
     ensures { λ r. ⌜ CodingRule mode (now («data» .entry)) (now (out .entry)) (now (out .exit)) r ⌝ }
 {
-    code_with(interleaver::addresses(), mode, data, out)
+    let addresses = interleaver::addresses();
+    let places = places(mode);
+    code_with(&addresses, &places, mode, data, out)
 }
 
 fn both(a: bool, b: bool) -> bool
@@ -291,14 +310,15 @@ fn plain(v: &[u8]) -> bool
 }
 
 // Whether the decided bits are those that the streams would have sent.
-fn same(mode: u8, v: &[u8], all: [u8; 3988]) -> bool
-    requires { ⌜ T (isMode mode) × (length (now v) ≡ packetBits mode) ⌝ }
+fn same(places: &[u16], mode: u8, v: &[u8], all: [u8; 3988]) -> bool
+    requires { ⌜ Places mode (now places) × (length (now v) ≡ packetBits mode) ⌝ }
     ensures { λ r. ⌜ r ≡ sameBits (packetBits mode) (row (now (v .entry))) (sentFrom mode (row all)) ⌝ }
 {
+    let n = packet_bits(mode);
     let mut ok = true;
     let mut i = 0;
-    while i < v.len() {
-        ok = both(ok, v[i] == all[sent_place(mode, i)]);
+    while i < n {
+        ok = both(ok, v[i] == all[wide(places[i])]);
         i = i + 1;
     }
     ok
@@ -327,9 +347,9 @@ fn refused(reason: u8) -> Judgement
     }
 }
 
-// Judges as many decided bits as a packet of the mode has; the addresses are the interleaver's.
-pub fn judge_with(addresses: [u16; 994], mode: u8, v: &[u8]) -> Judgement
-    requires { ⌜ Holds 0 994 (interleaved 5 (row tableD) 994) addresses × T (isMode mode) × (length (now v) ≡ packetBits mode) ⌝ }
+// Judges as many decided bits as a packet of the mode has; the addresses are the interleaver's, and the places the mode's.
+pub fn judge_with(addresses: &[u16], places: &[u16], mode: u8, v: &[u8]) -> Judgement
+    requires { ⌜ Addresses (now addresses) × Places mode (now places) × T (isMode mode) × (length (now v) ≡ packetBits mode) ⌝ }
     ensures { λ r. ⌜ JudgingRule mode (row (now (v .entry))) r ⌝ }
 {
     if !plain(v) {
@@ -347,7 +367,7 @@ pub fn judge_with(addresses: [u16; 994], mode: u8, v: &[u8]) -> Judgement
     if !packet::reserved_right(&x) {
         return refused(14);
     }
-    if !same(mode, v, streams_of(x, addresses)) {
+    if !same(places, mode, v, streams_of(addresses, x)) {
         return refused(15);
     }
     Judgement {
@@ -361,5 +381,7 @@ pub fn judge(mode: u8, v: &[u8]) -> Judgement
     requires { ⌜ T (isMode mode) × (length (now v) ≡ packetBits mode) ⌝ }
     ensures { λ r. ⌜ JudgingRule mode (row (now (v .entry))) r ⌝ }
 {
-    judge_with(interleaver::addresses(), mode, v)
+    let addresses = interleaver::addresses();
+    let places = places(mode);
+    judge_with(&addresses, &places, mode, v)
 }

@@ -15,16 +15,23 @@ use Rattle.turbo.proofs.Modes.{sent-coded, coded-same}
 use Rattle.turbo.proofs.code_with.Statement.{statement}
 use Rattle.turbo.proofs.code_with.Tie as tie
 
-mode-of : (c : tie.Else1) → T (isMode (c .before .before .before .args .mode))
-mode-of c = lt→ltb (c .before .before .before .args .mode) 2 (omega arith)
+abbrev start : tie.After-slice-known → tie.Start
+start c = c .before .before .before .before
+
+mode-of : (c : tie.Else1) → T (isMode (start (c .before) .args .mode))
+mode-of c = lt→ltb (start (c .before) .args .mode) 2 (omega arith)
+
+-- where a packet is coded
+abbrev coding : tie.After-without-tail → tie.Start
+coding c = start (c .before .before .before .before .before .before)
 
 -- the packet's bits enter
 entered : (c : tie.After-without-tail)
-    → Holds 0 994 (packetBit (row (now (c .before .before .before .before .before .before .before .before .args .«data»)))) (c .without-tail .result)
+    → Holds 0 994 (packetBit (row (now (coding c .args .«data»)))) (c .without-tail .result)
 entered c = holds-as 0 _ (λ k lt. c .before .bits-of .ensures .each k (omega arith)) (c .without-tail .ensures)
 
 returns : tie.Need-returns
-returns c = (λ t. omega (arith, ltb→lt (c .before .before .before .args .mode) 2 t), refl)
+returns c = (λ t. omega (arith, ltb→lt (start (c .before) .args .mode) 2 t), refl)
 
 returns-2 : tie.Need-returns-2
 returns-2 c = (mode-of (c .before), λ both. c .if2 .taken (both .0), refl)
@@ -42,12 +49,13 @@ without-tail-requires : tie.Need-without-tail-requires
 without-tail-requires c κs = search needs
 
 streams-of-requires : tie.Need-streams-of-requires
-streams-of-requires c κs = (bits-held (λ k lt. packet-bit-lt _ k) (entered c), c .before .before .before .before .before .before .before .before .pre)
+streams-of-requires c κs = (coding c .pre .0, bits-held (λ k lt. packet-bit-lt _ k) (entered c))
 
 send-requires : tie.Need-send-requires
 send-requires c κs =
-    let else3 = c .before .before .before .before in
-    (mode-of (else3 .before .before .before), else3 .if3 .left ∙ else3 .before .packet-bits .ensures .0)
+    let tail = c .before .before in
+    let else3 = tail .before .before in
+    (coding tail .pre .1, else3 .if3 .left ∙ else3 .before .packet-bits .ensures .0)
 
 same-length : tie.Need-same-length
 same-length c = search needs
@@ -57,9 +65,8 @@ returns-4 c =
     let tail = c .before .before .before .before .before in
     let else3 = tail .before .before in
     let else1 = else3 .before .before .before in
-    let start = else1 .before .before .before in
-    let m : ℕ = start .args .mode in
-    let d : ℕ → ℕ = packetBit (row (now (start .args .«data»))) in
+    let m : ℕ = coding tail .args .mode in
+    let d : ℕ → ℕ = packetBit (row (now (coding tail .args .«data»))) in
     let streams = c .before .before .before .before .streams-of in
     let x : ℕ → ℕ = row (tail .without-tail .result) in (
       mode-of else1,

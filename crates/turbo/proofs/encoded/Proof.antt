@@ -1,56 +1,80 @@
--- `encoded` fills in an encoder's two streams: before turn i, i parities and the register's state are there.
+-- `encoded` fills in the four streams: before turn i, i parities of both encoders and their registers' states are there.
 use mathlib.Core.Path.{_≡_, refl, sym, ap, ap₂, _∙_}
 use Prim.Native.Nat.{ℕ, _+_, _-_, _<_, _≤_}
 use native.Mathlib.Omega.{arith}
 use borrow.Author.Needs.{needs}
-use lib.ListN.{getD}
 use Rattle.rules.specs.Bits.{row}
 use Rattle.rules.specs.Turbo.{parityOf, shift, entering, state, y0}
 use Rattle.laws.specs.Holds.{Holds, holds-as}
-use Rattle.turbo.specs.Within.{within, from, withEnds, withStreams}
-use Rattle.turbo.proofs.Within.{within-none, within-before, ends-same, stored, held}
-use Rattle.turbo.proofs.Filling.{state-next, with-streams}
+use Rattle.turbo.specs.Streams.{stream}
+use Rattle.turbo.specs.Within.{within, from, withEnds}
+use Rattle.turbo.proofs.Within.{within-none, within-before, within-after, both-stored, held}
+use Rattle.turbo.proofs.Filling.{state-next, both-streams}
 use Rattle.turbo.proofs.encoded.Statement.{statement}
 use Rattle.turbo.proofs.encoded.Tie as tie
 
+-- the parities of the first i bits, where g has the bits of both encoders
+abbrev walked : ℕ → (ℕ → ℕ) → ℕ → ℕ
+walked i g = within 997 i (y0 g) (within 2991 i (y0 (from g 1994)) g)
+
 abbrev Inv-loop : tie.InvT-loop
-Inv-loop base s₀ register₀ i₀ s register i =
-    let x = from (row s₀) base in
-    (i ≤ 994) × (register < 8) × (register ≡ state x i) × Holds 0 3988 (within (base + 997) i (y0 x) (row s₀)) s
+Inv-loop s₀ first₀ second₀ i₀ s first second i =
+    (i ≤ 994)
+    × (first < 8)
+    × (second < 8)
+    × (first ≡ state (row s₀) i)
+    × (second ≡ state (from (row s₀) 1994) i)
+    × Holds 0 3988 (walked i (row s₀)) s
 
 abbrev μ-loop : tie.MeasureT-loop
-μ-loop base s₀ register₀ i₀ s register i = 994 - i
+μ-loop s₀ first₀ second₀ i₀ s first second i = 994 - i
 
 loop-holds : tie.Need-loop-holds Inv-loop μ-loop
 unfolding state
-loop-holds c = (omega arith, omega arith, refl, held _ _ (search needs) (λ k lt. within-none _ _ _ k))
+loop-holds c =
+    (omega arith, omega arith, omega arith, refl, refl, held _ _ (search needs) (λ k lt. within-none _ _ _ k ∙ within-none _ _ _ k))
 
--- the bit that a turn reads is still the one that was handed in
-read : (c : tie.In-loop Inv-loop μ-loop)
-    → getD (c .before .loop .s) (c .before .before .args .base + c .before .loop .i) 0
-    ≡ row (c .before .before .args .all) (c .before .before .args .base + c .before .loop .i)
-read c =
-    let args = c .before .before .args in
+-- the bits that a turn reads are still those that were handed in
+first-read : (c : tie.In-loop Inv-loop μ-loop) → row (c .before .loop .s) (c .before .loop .i) ≡ row (c .before .before .args .all) (c .before .loop .i)
+first-read c =
     let l = c .before .loop in
-    l .inv .3 .each (args .base + l .i) (omega arith) ∙ within-before (args .base + 997) (l .i) _ _ (args .base + l .i) (omega arith)
+    l .inv .5 .each (l .i) (omega arith) ∙ within-before 997 (l .i) _ _ (l .i) (omega arith) ∙ within-before 2991 (l .i) _ _ (l .i) (omega arith)
 
-add-data-period : tie.Need-add-data-period Inv-loop μ-loop
-add-data-period c = omega arith
+second-read : (c : tie.In-loop Inv-loop μ-loop)
+    → row (c .before .loop .s) (1994 + c .before .loop .i) ≡ row (c .before .before .args .all) (1994 + c .before .loop .i)
+second-read c =
+    let l = c .before .loop in
+    l .inv .5 .each (1994 + l .i) (omega arith) ∙ within-after 997 (l .i) _ _ (1994 + l .i) (omega arith)
+    ∙ within-before 2991 (l .i) _ _ (1994 + l .i) (omega arith)
 
 array-read-data-period : tie.Need-array-read-data-period Inv-loop μ-loop
 array-read-data-period c = omega arith
 
 data-period-requires : tie.Need-data-period-requires Inv-loop μ-loop
-data-period-requires c κs = (rw (read c) (c .before .before .pre .1 (c .before .before .args .base + c .before .loop .i)), omega arith)
+data-period-requires c κs = (rw (first-read c) (c .before .before .pre (c .before .loop .i)), omega arith)
+
+add-data-period : tie.Need-add-data-period Inv-loop μ-loop
+add-data-period c = omega arith
+
+array-read-data-period-2 : tie.Need-array-read-data-period-2 Inv-loop μ-loop
+array-read-data-period-2 c = omega arith
+
+data-period-requires-2 : tie.Need-data-period-requires-2 Inv-loop μ-loop
+data-period-requires-2 c κs =
+    let turn = c .before in
+    (rw (second-read turn) (turn .before .before .pre (1994 + turn .before .loop .i)), omega arith)
 
 add-s : tie.Need-add-s Inv-loop μ-loop
 add-s c = omega arith
 
+array-write-s : tie.Need-array-write-s Inv-loop μ-loop
+array-write-s c = omega arith
+
 add-s-2 : tie.Need-add-s-2 Inv-loop μ-loop
 add-s-2 c = omega arith
 
-array-write-s : tie.Need-array-write-s Inv-loop μ-loop
-array-write-s c = omega arith
+array-write-s-2 : tie.Need-array-write-s-2 Inv-loop μ-loop
+array-write-s-2 c = omega arith
 
 add-i : tie.Need-add-i Inv-loop μ-loop
 add-i c = omega arith
@@ -60,35 +84,42 @@ loop-less c = omega arith
 
 loop-again : tie.Need-loop-again Inv-loop μ-loop
 loop-again c =
-    let turn = c .before in
-    let args = turn .before .before .args in
+    let turn = c .before .before in
     let l = turn .before .loop in
-    let x : ℕ → ℕ = from (row (args .all)) (args .base) in
-    let p = c .data-period .ensures in (
+    let g : ℕ → ℕ = row (turn .before .before .args .all) in
+    let p = c .before .data-period .ensures in
+    let q = c .data-period2 .ensures in (
       omega arith,
       p .register-lt,
-      p .register-is ∙ ap₂ (λ (b s : ℕ). shift (entering b s) s) (read turn) (l .inv .2) ∙ sym (state-next x (l .i)),
-      stored (args .base + 997) (l .i) (args .base + 997 + l .i) _ (y0 x) (row (args .all)) refl (omega arith)
-          (p .y0-is ∙ ap₂ (λ (b s : ℕ). parityOf (entering b s) s) (read turn) (l .inv .2)) (l .inv .3),
+      q .register-lt,
+      p .register-is ∙ ap₂ (λ (b s : ℕ). shift (entering b s) s) (first-read turn) (l .inv .3) ∙ sym (state-next g (l .i)),
+      q .register-is ∙ ap₂ (λ (b s : ℕ). shift (entering b s) s) (second-read turn) (l .inv .4) ∙ sym (state-next (from g 1994) (l .i)),
+      both-stored 997 2991 (l .i) (997 + l .i) (2991 + l .i) _ _ (y0 g) (y0 (from g 1994)) g refl refl (omega arith) (omega arith)
+          (p .y0-is ∙ ap₂ (λ (b s : ℕ). parityOf (entering b s) s) (first-read turn) (l .inv .3))
+          (q .y0-is ∙ ap₂ (λ (b s : ℕ). parityOf (entering b s) s) (second-read turn) (l .inv .4)) (l .inv .5),
     )
 
 ended-requires : tie.Need-ended-requires Inv-loop μ-loop
 ended-requires c κs = omega arith
 
+ended-requires-2 : tie.Need-ended-requires-2 Inv-loop μ-loop
+ended-requires-2 c κs = omega arith
+
 returns : tie.Need-returns Inv-loop μ-loop
 returns c =
-    let args = c .before .before .before .args in
-    let l = c .before .before .loop in
+    let first-ended = c .before .ended in
+    let l = c .before .before .before .loop in
+    let g : ℕ → ℕ = row (c .before .before .before .before .args .all) in
     let all : l .i ≡ 994 = omega arith in
-    let x : ℕ → ℕ = from (row (args .all)) (args .base) in
-    let walked : ℕ → ℕ = within (args .base + 997) 994 (y0 x) (row (args .all)) in
-    let filled : Holds 0 3988 walked (l .s) = rw all at (l .inv .3) in
-    let came : l .register ≡ state x 994 = rw all at (l .inv .2) in
-    holds-as 0 (withStreams (args .base) (row (args .all)))
+    let filled : Holds 0 3988 (walked 994 g) (l .s) = rw all at (l .inv .5) in
+    let first-came : l .first ≡ state g 994 = rw all at (l .inv .3) in
+    let second-came : l .second ≡ state (from g 1994) 994 = rw all at (l .inv .4) in
+    holds-as 0 (stream g (from g 1994))
     (λ k lt.
-    ap (λ (s : ℕ). withEnds (args .base) s (row (l .s)) k) came
-    ∙ ends-same (args .base) (state x 994) (row (l .s)) walked k (filled .each k lt) ∙ with-streams (args .base) (row (args .all)) k)
-    (c .ended .ensures)
+    ap (λ (s : ℕ). withEnds 1994 s (row (first-ended .result)) k) second-came
+    ∙ both-streams g (row (l .s)) (row (first-ended .result)) (filled .each)
+    (λ j below. first-ended .ensures .each j below ∙ ap (λ (s : ℕ). withEnds 0 s (row (l .s)) j) first-came) k lt)
+    (c .ended2 .ensures)
 
 pub encoded-spec : {M : Type 1} → statement M
 encoded-spec =
@@ -97,14 +128,18 @@ encoded-spec =
     Inv-loop
     μ-loop
     loop-holds
-    add-data-period
     array-read-data-period
     data-period-requires
+    add-data-period
+    array-read-data-period-2
+    data-period-requires-2
     add-s
-    add-s-2
     array-write-s
+    add-s-2
+    array-write-s-2
     add-i
     loop-less
     loop-again
     ended-requires
+    ended-requires-2
     returns)

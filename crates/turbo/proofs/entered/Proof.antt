@@ -15,10 +15,10 @@ use Rattle.turbo.proofs.entered.Statement.{statement}
 use Rattle.turbo.proofs.entered.Tie as tie
 
 abbrev Inv-loop : tie.InvT-loop
-Inv-loop x addresses s₀ i₀ s i = (i ≤ 994) × Holds 0 3988 (within 0 i (row x) (within 1994 i (second (row x)) (λ k. 0))) s
+Inv-loop addresses x s₀ i₀ s i = (i ≤ 994) × Holds 0 3988 (within 0 i (row x) (within 1994 i (second (row x)) (λ k. 0))) s
 
 abbrev μ-loop : tie.MeasureT-loop
-μ-loop x addresses s₀ i₀ s i = 994 - i
+μ-loop addresses x s₀ i₀ s i = 994 - i
 
 loop-holds : tie.Need-loop-holds Inv-loop μ-loop
 loop-holds c = (omega arith, holds-as 0 _ (λ k lt. sym (within-none _ _ _ k ∙ within-none _ _ _ k)) (zeros 3988))
@@ -32,18 +32,20 @@ array-write-s c = omega arith
 mul-wide : tie.Need-mul-wide Inv-loop μ-loop
 mul-wide c = omega arith
 
-array-read-wide : tie.Need-array-read-wide Inv-loop μ-loop
-array-read-wide c = omega arith
+shared-slice-read-wide : tie.Need-shared-slice-read-wide Inv-loop μ-loop
+shared-slice-read-wide c = omega arith
 
 wide-requires : tie.Need-wide-requires Inv-loop μ-loop
 wide-requires c κs = search needs
 
 -- the address that a turn reads
-read : (c : tie.After-wide Inv-loop μ-loop) → c .wide .result ≡ interleaved 5 (row tableD) 994 (c .before .before .loop .i)
-read c = c .wide .ensures .0 ∙ c .before .before .before .pre .each (c .before .before .loop .i) (omega arith)
+read : (c : tie.After-wide Inv-loop μ-loop) → c .wide .result ≡ interleaved 5 (row tableD) 994 (c .before .before .before .loop .i)
+read c =
+    let l = c .before .before .before in
+    c .wide .ensures .0 ∙ l .before .before .pre .each (l .loop .i) (omega arith)
 
 array-read-s-2 : tie.Need-array-read-s-2 Inv-loop μ-loop
-array-read-s-2 c = rw (read c) (interleaved5-lt (c .before .before .loop .i) (omega arith))
+array-read-s-2 c = rw (read c) (interleaved5-lt (c .before .before .before .loop .i) (omega arith))
 
 add-s : tie.Need-add-s Inv-loop μ-loop
 add-s c = omega arith
@@ -59,11 +61,11 @@ loop-less c = omega arith
 
 loop-again : tie.Need-loop-again Inv-loop μ-loop
 loop-again c =
-    let args = c .before .before .before .args in
-    let l = c .before .before .loop in (
+    let args = c .before .before .before .before .before .args in
+    let l = c .before .before .before .loop in (
       omega arith,
-      both-stored 0 1994 (l .i) (l .i) (1994 + l .i) _ _ (row (args .t1)) (second (row (args .t1))) (λ k. 0) (sym (zero-add (l .i))) refl
-          (omega arith) (omega arith) refl (ap (row (args .t1)) (read c)) (l .inv .1),
+      both-stored 0 1994 (l .i) (l .i) (1994 + l .i) _ _ (row (args .t2)) (second (row (args .t2))) (λ k. 0) (sym (zero-add (l .i))) refl
+          (omega arith) (omega arith) refl (ap (row (args .t2)) (read c)) (l .inv .1),
     )
 
 returns : tie.Need-returns Inv-loop μ-loop
@@ -82,7 +84,7 @@ entered-spec =
     array-read-s
     array-write-s
     mul-wide
-    array-read-wide
+    shared-slice-read-wide
     wide-requires
     array-read-s-2
     add-s

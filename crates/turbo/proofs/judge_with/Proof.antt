@@ -24,10 +24,10 @@ use Rattle.turbo.proofs.judge_with.Statement.{statement}
 use Rattle.turbo.proofs.judge_with.Tie as tie
 
 abbrev Inv-loop : tie.InvT-loop
-Inv-loop addresses mode v x₀ i₀ x i = (i ≤ 994) × Holds 0 994 (within 0 i (decidedData mode (row v)) (λ k. 0)) x
+Inv-loop addresses places mode v x₀ i₀ x i = (i ≤ 994) × Holds 0 994 (within 0 i (decidedData mode (row v)) (λ k. 0)) x
 
 abbrev μ-loop : tie.MeasureT-loop
-μ-loop addresses mode v x₀ i₀ x i = 994 - i
+μ-loop addresses places mode v x₀ i₀ x i = 994 - i
 
 -- a refusal, for a reason that is the verdict
 refusal : (m : ℕ) (v : ℕ → ℕ) (n : ℕ) (a : Judgement)
@@ -39,14 +39,17 @@ refusal m v n a is e not = record { reason-is = is .0 ∙ e; accepted = λ zero.
 
 -- ---- what is known on the way
 
+abbrev start : tie.After-plain Inv-loop μ-loop → tie.Start Inv-loop μ-loop
+start c = c .before .before .before .before
+
 abbrev modeOf : tie.After-plain Inv-loop μ-loop → ℕ
-modeOf c = c .before .before .args .mode
+modeOf c = start c .args .mode
 
 abbrev given : tie.After-plain Inv-loop μ-loop → ℕ → ℕ
-given c = row (now (c .before .before .args .v))
+given c = row (now (start c .args .v))
 
 plain-is : (c : tie.After-plain Inv-loop μ-loop) → plainBits (packetBits (modeOf c)) (given c) ≡ c .plain .result
-plain-is c = ap (λ (n : ℕ). plainBits n (given c)) (sym (c .before .before .pre .2)) ∙ sym (c .plain .ensures)
+plain-is c = ap (λ (n : ℕ). plainBits n (given c)) (sym (start c .pre .3)) ∙ sym (c .plain .ensures)
 
 plain-passed : (c : tie.Else1 Inv-loop μ-loop) → plainBits (packetBits (modeOf (c .before))) (given (c .before)) ≡ true
 plain-passed c = plain-is (c .before) ∙ not-false (c .before .plain .result) (c .if1 .left)
@@ -60,7 +63,7 @@ module _ (c : tie.After-loop Inv-loop μ-loop) where
   v = given (c .before .before .before)
 
   mode : T (isMode m)
-  mode = c .before .before .before .before .before .pre .1
+  mode = start (c .before .before .before) .pre .2
 
   decided : Holds 0 994 (decidedData m v) (c .before .loop .x)
   decided =
@@ -118,7 +121,7 @@ loop-holds : tie.Need-loop-holds Inv-loop μ-loop
 loop-holds c = (omega arith, unfilled 994 _ _ (zeros 994))
 
 own-place-requires : tie.Need-own-place-requires Inv-loop μ-loop
-own-place-requires c κs = (c .before .before .before .before .before .pre .1, omega arith)
+own-place-requires c κs = (start (c .before .before .before) .pre .2, omega arith)
 
 shared-slice-read-x : tie.Need-shared-slice-read-x Inv-loop μ-loop
 shared-slice-read-x c = omega arith
@@ -134,10 +137,9 @@ loop-less c = omega arith
 
 loop-again : tie.Need-loop-again Inv-loop μ-loop
 loop-again c =
-    let start = c .before .before .before .before .before .before .before in
-    let l = c .before .before .before .loop in (
+    let l = c .before .before .before in (
       omega arith,
-      stored-next (l .i) _ _ _ (omega arith) (ap (row (now (start .args .v))) (c .before .own-place .ensures .0)) (l .inv .1),
+      stored-next (l .loop .i) _ _ _ (omega arith) (ap (given (l .before .before)) (c .before .own-place .ensures .0)) (l .loop .inv .1),
     )
 
 slice-aggregate-check-right : tie.Need-slice-aggregate-check-right Inv-loop μ-loop
@@ -179,12 +181,12 @@ returns-3 c =
 streams-of-requires : tie.Need-streams-of-requires Inv-loop μ-loop
 streams-of-requires c κs =
     let l = c .before .before .before .before .before .before in
-    (bits l, l .before .before .before .before .before .pre .0)
+    (start (l .before .before .before) .pre .0, bits l)
 
 same-requires : tie.Need-same-requires Inv-loop μ-loop
 same-requires c κs =
     let l = c .before .before .before .before .before .before .before in
-    (mode l, l .before .before .before .before .before .pre .2)
+    (start (l .before .before .before) .pre .1, start (l .before .before .before) .pre .3)
 
 refused-requires-4 : tie.Need-refused-requires-4 Inv-loop μ-loop
 refused-requires-4 c κs = search needs

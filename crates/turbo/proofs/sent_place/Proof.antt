@@ -23,7 +23,7 @@ add-place c = omega (arith, below c)
 place-requires : tie.Need-place-requires
 place-requires c κs =
     let start = c .before in
-    (start .pre .0, rw (c .packet-bits .ensures .0) (source-lt (start .args .mode) (start .pre .0) (start .args .i) (start .pre .1)))
+    rw (c .packet-bits .ensures .0) (source-lt (start .args .mode) (start .args .i) (start .pre))
 
 returns : tie.Need-returns
 returns c = rw (← c .before .packet-bits .ensures .0) (c .place .ensures)
