@@ -25,28 +25,34 @@ column-more r lost j block out out' c most lt before h good put =
     (codeword-same most (λ p m. sym (h .each p m)) good, λ p m. put .here p m ∙ h .each p m)
 
 abbrev Inv-loop : tie.InvT-loop
-Inv-loop r lost m block out₀ j₀ out j = (j ≤ 122) × (length out ≡ 1952) × Solved j r lost block out
+Inv-loop r lost m block out₀ x j₀ out j = (j ≤ 122) × (length out ≡ 1952) × Solved j r lost block out
 
 abbrev μ-loop : tie.MeasureT-loop
-μ-loop r lost m block out₀ j₀ out j = 122 - j
+μ-loop r lost m block out₀ x j₀ out j = 122 - j
+
+roots-requires : tie.Need-roots-requires Inv-loop μ-loop
+roots-requires c κs = search needs
 
 loop-holds : tie.Need-loop-holds Inv-loop μ-loop
-loop-holds c = (omega arith, c .before .before .pre .4, λ i l. absurd (omega arith))
+loop-holds c = (omega arith, c .before .before .before .pre .4, λ i l. absurd (omega arith))
 
 solved-requires : tie.Need-solved-requires Inv-loop μ-loop
-solved-requires c κs = let h = c .before .before .before .before .pre in (h .0, h .1, h .2, h .3, omega arith)
+solved-requires c κs =
+    let r = c .before .before in
+    let h = r .before .before .before .pre in
+    (h .0, h .1, r .roots .ensures, h .2, h .3, omega arith)
 
 is-codeword-requires : tie.Need-is-codeword-requires Inv-loop μ-loop
 is-codeword-requires c κs = search needs
 
 same-length : tie.Need-same-length Inv-loop μ-loop
-same-length c = c .before .before .before .before .loop .inv .1 ∙ sym (c .before .before .before .before .before .before .before .pre .4)
+same-length c = c .before .before .before .before .loop .inv .1 ∙ sym (c .before .before .before .before .before .before .before .before .pre .4)
 
 returns : tie.Need-returns Inv-loop μ-loop
 returns c =
     let l = c .before .before .before .before .loop in
     let s = c .before .before .solved in
-    let h = c .before .before .before .before .before .before .before in
+    let h = c .before .before .before .before .before .before .before .before in
     let t = c .before .is-codeword in
     let none = subst (Says (Codeword (h .args .r) (row (s .result)))) (not-true (t .result) (c .if1 .taken)) (t .ensures) in
     (l .j, omega arith, λ w. none (codeword-same (h .pre .0) (s .ensures .each) w))
@@ -65,7 +71,7 @@ loop-again c =
     let e = c .before .before .before .before in
     let l = e .before .before .before .before .loop in
     let s = e .before .before .solved in
-    let h = e .before .before .before .before .before .before .before in
+    let h = e .before .before .before .before .before .before .before .before in
     let t = e .before .is-codeword in
     let good = subst (Says (Codeword (h .args .r) (row (s .result)))) (not-false (t .result) (e .if1 .left)) (t .ensures) in (
       omega arith,
@@ -75,7 +81,7 @@ loop-again c =
     )
 
 same-length-2 : tie.Need-same-length-2 Inv-loop μ-loop
-same-length-2 c = c .before .loop .inv .1 ∙ sym (c .before .before .before .before .pre .4)
+same-length-2 c = c .before .loop .inv .1 ∙ sym (c .before .before .before .before .before .pre .4)
 
 returns-2 : tie.Need-returns-2 Inv-loop μ-loop
 returns-2 c = λ j l. c .before .loop .inv .2 j (omega arith)
@@ -86,6 +92,7 @@ all-solved-spec =
     (tie.spec
     Inv-loop
     μ-loop
+    roots-requires
     loop-holds
     solved-requires
     is-codeword-requires

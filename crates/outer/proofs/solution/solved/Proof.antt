@@ -1,5 +1,5 @@
 -- The loop's invariant: i lost packets were passed, and the bytes of the first p packets are worked out.
-use mathlib.Core.Path.{_≡_, refl, sym, ap₂, _∙_, subst₂}
+use mathlib.Core.Path.{_≡_, refl, sym, ap, ap₂, _∙_, subst₂}
 use mathlib.Core.Bool.{true, false}
 use mathlib.Core.List.{List, []}
 use mathlib.Core.Logic.{⊎-elim}
@@ -8,7 +8,7 @@ use lib.ListN.{set, getD}
 use borrow.Author.Tests.{eqb-true, eqb-false}
 use Rattle.rules.specs.Bits.{row}
 use Rattle.rules.specs.Field.{_⊗_}
-use Rattle.rules.specs.Outer.{marked, column}
+use Rattle.rules.specs.Outer.{marked, column, value, root}
 use Rattle.laws.specs.Holds.{Holds}
 use Rattle.outer.specs.Solve.{sum, tally, lostAt, entry, syndrome, kept, solved}
 use Rattle.outer.specs.Steps.{Starts, Rows}
@@ -48,6 +48,10 @@ unfolding solved
 lost-byte r lost d p i m s c l on place rows hc hs =
     rw (on, place) (sum-same r (λ j k. ap₂ _⊗_ (rows p l (eqb-true _ _ on) j k) (hs j k ∙ value-same 16 _ (hc .each))))
 
+-- the values at the roots are the syndromes
+at-roots : (r : ℕ) (x c s : List ℕ) → r ≤ 8 → Holds 0 8 (root r) x → Holds 0 8 (λ j. value 16 (row c) (row x j)) s → Starts r (syndrome r (row c)) s
+at-roots r x c s most hx hs j l = hs .each j (omega arith) ∙ ap (value 16 (row c)) (hx .each j (omega arith))
+
 -- and of one that is kept
 kept-byte : (r lost : ℕ) (d : ℕ → ℕ) (p : ℕ) → lostAt lost p ≡ false → kept lost d p ≡ solved r lost d p
 unfolding solved
@@ -61,10 +65,10 @@ abbrev μ-loop : tie.MeasureT-loop
 μ-loop r lost block j m c₀ s i₀ p₀ c i p = 16 - p
 
 kept-requires : tie.Need-kept-requires Inv-loop μ-loop
-kept-requires c κs = (c .before .pre .3, c .before .pre .4)
+kept-requires c κs = (c .before .pre .4, c .before .pre .5)
 
-syndromes-requires : tie.Need-syndromes-requires Inv-loop μ-loop
-syndromes-requires c κs = search needs
+values-requires : tie.Need-values-requires Inv-loop μ-loop
+values-requires c κs = search needs
 
 loop-holds : tie.Need-loop-holds Inv-loop μ-loop
 unfolding tally
@@ -110,6 +114,7 @@ loop-again c =
     let l = c .before .before .before .loop in
     let s = c .before .before .before .before in
     let a = s .before .before .before .args in
+    let h = s .before .before .before .pre in
     let d = column (a .block .now) (a .j) in
     let is = c .before .lost-at .ensures in
     let lt : l .p < 16 = omega arith in
@@ -120,8 +125,8 @@ loop-again c =
           subst₂ next (sym (w .3)) (sym (w .4))
           (byte-more (a .r) (a .lost) d (l .p) (l .inv .1) _ lt (eqb-true _ _ on)
           (w .2 .ensures
-          ∙ lost-byte (a .r) (a .lost) d (l .p) (l .i) (a .t3) (s .syndromes .result) (s .before .kept .result) lt on (l .inv .1 .place)
-          (s .before .before .before .pre .2) (s .before .kept .ensures) (s .syndromes .ensures))))
+          ∙ lost-byte (a .r) (a .lost) d (l .p) (l .i) (a .t4) (s .values .result) (s .before .kept .result) lt on (l .inv .1 .place)
+          (h .3) (s .before .kept .ensures) (at-roots (a .r) (a .x) (s .before .kept .result) (s .values .result) (h .0) (h .2) (s .values .ensures)))))
           (λ w. let off = sym is ∙ w .0 .left in
           subst₂ next (sym (w .1)) (sym (w .2))
           (byte-same (a .r) (a .lost) d (l .p) (l .inv .1) (eqb-false _ _ off) (kept-byte (a .r) (a .lost) d (l .p) off))) (c .if1 .came),
@@ -141,7 +146,7 @@ solved-spec =
     Inv-loop
     μ-loop
     kept-requires
-    syndromes-requires
+    values-requires
     loop-holds
     lost-at-requires
     mul-dot

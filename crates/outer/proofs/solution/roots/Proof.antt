@@ -1,18 +1,16 @@
--- The loop's invariant: the first j syndromes are there, and root j is at hand.
+-- The loop's invariant: the first j powers are there, and the next one is at hand.
 use mathlib.Core.Path.{_≡_, sym, ap, _∙_}
 use Prim.Native.Nat.{ℕ, _+_, _-_, _/_, _≤_}
 use native.Mathlib.Numerals.{add-one}
-use Rattle.rules.specs.Bits.{row}
 use Rattle.rules.specs.Field.{_⊗_, alpha}
-use Rattle.rules.specs.Outer.{value, root}
+use Rattle.rules.specs.Outer.{root}
 use Rattle.laws.specs.Holds.{Holds}
+use Rattle.laws.specs.Filled.{upTo, holds-next, holds-whole, holds-new}
 use Rattle.field.proofs.Laws.{alpha-is, alpha-lt, double-is}
-use Rattle.outer.specs.Solve.{syndrome}
-use Rattle.laws.specs.Filled.{upTo, upTo-below, holds-next, holds-new}
 use borrow.Author.Needs.{needs}
 use native.Mathlib.Omega.{arith}
-use Rattle.outer.proofs.solution.syndromes.Statement.{statement}
-use Rattle.outer.proofs.solution.syndromes.Tie as tie
+use Rattle.outer.proofs.solution.roots.Statement.{statement}
+use Rattle.outer.proofs.solution.roots.Tie as tie
 
 root-next : (r j : ℕ) → 2 ⊗ root r j ≡ root r (j + 1)
 unfolding alpha
@@ -22,10 +20,10 @@ root-next r j =
     sym (double-is (alpha n) (alpha-lt n)) ∙ rw (e, add-one n)
 
 abbrev Inv-loop : tie.InvT-loop
-Inv-loop r c x₀ s₀ j₀ x s j = (j ≤ r) × (x .0 ≡ root r j) × Holds 0 8 (upTo j (syndrome r (row c)) (λ k. 0)) s
+Inv-loop r power₀ x₀ j₀ power x j = (j ≤ 8) × (power .0 ≡ root r j) × Holds 0 8 (upTo j (root r) (λ k. 0)) x
 
 abbrev μ-loop : tie.MeasureT-loop
-μ-loop r c x₀ s₀ j₀ x s j = r - j
+μ-loop r power₀ x₀ j₀ power x j = 8 - j
 
 cast-power : tie.Need-cast-power Inv-loop μ-loop
 cast-power c = omega arith
@@ -40,13 +38,10 @@ loop-holds : tie.Need-loop-holds Inv-loop μ-loop
 loop-holds c =
     let a = c .before .args in
     let e : 128 - a .r / 2 ≡ 128 - a .r / 2 + 0 = omega arith in
-    (omega arith, c .power .ensures ∙ sym (alpha-is _) ∙ ap alpha e, holds-new 8 (syndrome (a .r) (row (a .c))))
+    (omega arith, c .power .ensures ∙ sym (alpha-is _) ∙ ap alpha e, holds-new 8 (root (a .r)))
 
-value-requires : tie.Need-value-requires Inv-loop μ-loop
-value-requires c κs = search needs
-
-array-write-s : tie.Need-array-write-s Inv-loop μ-loop
-array-write-s c = omega arith
+array-write-x : tie.Need-array-write-x Inv-loop μ-loop
+array-write-x c = omega arith
 
 product-requires : tie.Need-product-requires Inv-loop μ-loop
 product-requires c κs = search needs
@@ -59,22 +54,20 @@ loop-less c = omega arith
 
 loop-again : tie.Need-loop-again Inv-loop μ-loop
 loop-again c =
-    let l = c .before .before .before .loop in
-    let a = c .before .before .before .before .before .args in
-    let f = syndrome (a .r) (row (a .c)) in (
+    let l = c .before .before .loop in
+    let a = c .before .before .before .before .args in (
       omega arith,
       c .product .ensures ∙ ap (_⊗_ 2) (l .inv .1) ∙ root-next (a .r) (l .j),
-      holds-next f (λ k. 0) 0 (l .j) _ (omega arith) (c .before .value .ensures ∙ ap (value 16 (row (a .c))) (l .inv .1)) (l .inv .2),
+      holds-next (root (a .r)) (λ k. 0) 0 (l .j) _ (omega arith) (l .inv .1) (l .inv .2),
     )
 
 returns : tie.Need-returns Inv-loop μ-loop
 returns c =
     let l = c .before .loop in
-    let a = c .before .before .before .args in
-    λ j m. l .inv .2 .each j (omega arith) ∙ upTo-below (syndrome (a .r) (row (a .c))) (λ k. 0) (l .j) j (omega arith)
+    holds-whole (root (c .before .before .before .args .r)) (λ k. 0) 0 (l .j) (omega arith) (l .inv .2)
 
-pub syndromes-spec : {M : Type 1} → statement M
-syndromes-spec =
+pub roots-spec : {M : Type 1} → statement M
+roots-spec =
     tie.close
     (tie.spec
     Inv-loop
@@ -83,8 +76,7 @@ syndromes-spec =
     sub-power
     power-requires
     loop-holds
-    value-requires
-    array-write-s
+    array-write-x
     product-requires
     add-j
     loop-less
