@@ -1,4 +1,4 @@
--- What a profile in range has: a mode, a K, and seeds of 20 bits.
+-- What a profile in range has: a level, a mode, a K, and seeds of 20 bits.
 use mathlib.Core.Bool.{true, _&&_}
 use mathlib.Core.List.{List, [], _∷_}
 use Prim.Native.Nat.{ℕ, zero, suc, _^_, _<_}
@@ -19,6 +19,7 @@ seeds-lt (suc n) (x ∷ l) h zero lt = ltb→lt x (2 ^ 20) (and-r (ltb 0 x) (ltb
 seeds-lt (suc n) (x ∷ l) h (suc t) lt = seeds-lt n l (and-r (in20 x) (all in20 (take n l)) h) t (omega arith)
 
 pub record Ranges (P : Profile) : Type 0 where
+  pub level : T (isLevel (P .level))
   pub mode : T (isMode (P .mode))
   pub k : T (isK (P .k))
   pub seeds : (t : ℕ) → t < slots (P .mode) → row (P .seeds) t < 2 ^ 20
@@ -34,6 +35,7 @@ ranges P h =
     let after-mode = and-r m (k && s) after-level in
     let in-seeds = and-l (areSeeds (P .mode) (P .seeds)) true (and-r k s after-mode) in
     record {
+      level = and-l (isLevel (P .level)) (m && (k && s)) after-masks;
       mode = and-l m (k && s) after-level;
       k = and-l k s after-mode;
       seeds = seeds-lt (slots (P .mode)) (P .seeds)

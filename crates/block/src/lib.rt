@@ -1,6 +1,6 @@
 // What sending and receiving share: the numbers that come first, the sizes of a mode, and a whole block's scrambling.
 ghost use mathlib.Core.Path.{_≡_};
-ghost use Prim.Native.Nat.{ℕ, _*_, _≤_};
+ghost use Prim.Native.Nat.{_*_, _≤_};
 ghost use lib.Dec.{T};
 ghost use Rattle.rules.specs.Bits.{row};
 ghost use Rattle.rules.specs.Slots.{packetBits, slots, slotBits, symbols};

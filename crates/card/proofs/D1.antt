@@ -5,7 +5,6 @@ use mathlib.Core.List.{List}
 use Prim.Native.Nat.{ℕ, _*_, _<_}
 use native.Mathlib.Decide.{ℕ-discrete}
 use lib.Dec.{T, eqb, ltb}
-use lib.Ieee.{Float}
 use lib.ListN.{length, replicate, getD-replicate}
 use Rattle.rules.specs.Bits.{pick, row, everyBelow}
 use Rattle.rules.specs.Outer.{marked}

@@ -6,7 +6,7 @@ use Prim.Native.Nat.{ℕ, _+_, _-_, _*_, _/_, _%_, _^_, _<_, _≤_}
 use native.Mathlib.Decide.{ℕ-discrete}
 use native.Mathlib.Omega.{arith}
 use lib.Count.{ones}
-use lib.Dec.{T, lit≤}
+use lib.Dec.{T}
 use lib.Ieee.{Float}
 use lib.ListN.{length}
 use lib.Seq.{ext-getD}
@@ -19,18 +19,16 @@ use Rattle.rules.specs.Block.{packet, decidedData, byteOf, verdict, Delivered, 
 use Rattle.rules.specs.Demands.{D3, heardInPlace, sentInPlace, Doubtful, Wrong, Lost}
 use Rattle.rules.specs.declared.Profile.{Profile}
 use Rattle.rules.specs.declared.Receipt.{Receipt}
-use Rattle.outer.proofs.Roots.{by-k, rate as outer-rate, encoded-data, encoded-codeword}
+use Rattle.outer.proofs.Roots.{k-range, rate as outer-rate, encoded-data, encoded-codeword}
 use Rattle.outer.proofs.Solve.{unique}
 use Rattle.turbo.proofs.Accepted.{accepted-coded, coded-accepted, accepted-bytes}
 use Rattle.card.proofs.Grid.{grid-heard}
 use Rattle.card.proofs.Few.{few-same}
 use Rattle.receiving.proofs.Mask.{mask-lt}
+use Rattle.block.proofs.Ranges.{ranges}
 use Rattle.card.proofs.Mask.{mask-kept}
 use Rattle.card.proofs.Differ.{find}
-use Rattle.card.proofs.Place.{mode-of, k-of, judges, reason-verdict, reason-unmarked, part, reasonIn, part-place, accepted, sent-place}
-
-k-most : (k : ℕ) → T (isK k) → k ≤ 14
-k-most = by-k (λ (k : ℕ). k ≤ 14) (lit≤ tt) (lit≤ tt) (lit≤ tt)
+use Rattle.card.proofs.Place.{judges, reason-verdict, reason-unmarked, part, reasonIn, part-place, accepted, sent-place}
 
 -- a packet is marked, or has doubtful parts, or at most three bits decided wrongly
 abbrev Expected : Profile → ℕ → List ℕ → List Float → List Float → ℕ → Type 0
@@ -47,7 +45,7 @@ module _ (P : Profile) (t : T (inRange P)) (d : List ℕ) (f s : List Float) (p 
   sent-part : (i : ℕ) → i < packetBits (P .mode)
       → (part P f s p i ≡ coded (P .mode) (packetBit (packet (P .k) d p)) i) ↔ (heardInPlace P f s p i ≡ sentInPlace P d p i)
   sent-part i l =
-      let iff = part-place P (mode-of P t) f s p (packet (P .k) d p) i l in
+      let iff = part-place P (ranges P t .mode) f s p (packet (P .k) d p) i l in
       let same = sent-place P d p i l in
       ((λ h. iff .0 h ∙ sym same), λ h. iff .1 (h ∙ same))
 
@@ -55,10 +53,10 @@ module _ (P : Profile) (t : T (inRange P)) (d : List ℕ) (f s : List Float) (p 
       → differ (packetBits (P .mode)) (heardInPlace P f s p) (sentInPlace P d p) ≤ 3
       → Whole
   few-whole z few i l =
-      let own = accepted-coded (P .mode) (mode-of P t) (part P f s p) z .1 in
+      let own = accepted-coded (P .mode) (ranges P t .mode) (part P f s p) z .1 in
       let e : ℕ → ℕ = byteOf (decidedData (P .mode) (part P f s p)) in
       own i l
-      ∙ few-same (P .mode) (mode-of P t) e (packet (P .k) d p) (heardInPlace P f s p) (sentInPlace P d p)
+      ∙ few-same (P .mode) (ranges P t .mode) e (packet (P .k) d p) (heardInPlace P f s p) (sentInPlace P d p)
       (λ k h q. sym (own k h) ∙ sent-part k h .1 q) few i l
 
   module _ (marks : ℕ) (each : Expected P marks d f s p) where
@@ -74,7 +72,7 @@ module _ (P : Profile) (t : T (inRange P)) (d : List ℕ) (f s : List Float) (p 
 
         go : Expected P marks d f s p → Whole
         go (inl q) = absurd (unmarked q)
-        go (inr (inl q)) = absurd (omega (arith, q .2, accepted P (mode-of P t) f s p .0 plain .2 (q .0) (q .1)))
+        go (inr (inl q)) = absurd (omega (arith, q .2, accepted P (ranges P t .mode) f s p .0 plain .2 (q .0) (q .1)))
         go (inr (inr few)) = few-whole plain few
 
     -- lost exactly where it isn't accepted
@@ -89,7 +87,7 @@ module _ (P : Profile) (t : T (inRange P)) (d : List ℕ) (f s : List Float) (p 
         there (no q) (inl w) ne = inr (inr w)
         there (no q) (inr h) ne =
             absurd (ne (reason-verdict P marks f s p q
-            ∙ coded-accepted (P .mode) (mode-of P t) (part P f s p) (packet (P .k) d p) (λ i l. sent-part i l .1 (h i l))))
+            ∙ coded-accepted (P .mode) (ranges P t .mode) (part P f s p) (packet (P .k) d p) (λ i l. sent-part i l .1 (h i l))))
 
         back : Lost P marks d f s p → ¬ (reasonIn P marks f s p ≡ 0)
         back (inl q) z = reason-unmarked P marks f s p z q
@@ -121,7 +119,7 @@ delivers {k} {after = after} d (Delivered.whole few w good long is) t fits all s
         let whole : 122 * p + j ≡ i = omega arith in
         let small : j < 122 = omega arith in
         let below : p < k = omega (arith, long) in
-        let most : k ≤ 14 = k-most k t in
+        let most = k-range k t in
         ap (row after) (sym whole) ∙ is p j below small
         ∙ unique fits few (outer-rate k t) (good j small .0) (sent j small .0) (good j small .1) (sent j small .1) p (omega arith)
         ∙ encoded-data (16 - k) (λ q. row d (122 * q + j)) p (omega arith) ∙ ap (row d) whole
@@ -147,14 +145,14 @@ module _ (P : Profile) (d : List ℕ) (marks : ℕ) (f s : List Float) (before a
 
   agrees : (i : ℕ) → i < 122 → Agree (a .lost) (λ p. packet (P .k) d p i) (λ p. byteOf (decidedData (P .mode) (part P f s p)) i)
   agrees i l p h e =
-      sym (accepted-bytes (P .mode) (mode-of P t) (part P f s p) (packet (P .k) d p)
+      sym (accepted-bytes (P .mode) (ranges P t .mode) (part P f s p) (packet (P .k) d p)
       (accepted-whole P t d f s p marks (each p h) (kept-reason p h .0 e)) i l (sent-word (P .k) d bytes i .bytes p h))
 
   comes-back : length d ≡ 122 * P .k
       → (ones (a .lost) ≤ 16 - P .k → (a .number ≡ 0) × (after ≡ d)) × (16 - P .k < ones (a .lost) → (a .number ≡ 9) × (after ≡ before))
   comes-back long =
       let fits : a .lost < 2 ^ 16 = subst (λ (x : ℕ). x < 2 ^ 16) (sym (j .lost-is)) (mask-lt (row (a .reasons)) 16) in
-      delivers d (j .delivered) (k-of P t) fits long (λ i l. (sent-word (P .k) d bytes i, agrees i l))
+      delivers d (j .delivered) (ranges P t .k) fits long (λ i l. (sent-word (P .k) d bytes i, agrees i l))
 
 pub d3 : D3
 d3 =

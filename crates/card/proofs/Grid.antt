@@ -6,25 +6,21 @@ use Prim.Native.Nat.{ℕ, _+_, _*_, _/_, _%_, _<_}
 use native.Mathlib.Omega.{arith}
 use lib.Dec.{T, eqb}
 use lib.Ieee.{Float}
-use lib.Ieee.Fits.{and-l, and-r}
 use Rattle.rules.specs.Bits.{pick}
-use Rattle.rules.specs.Slots.{slotBits, packetBits, slots, symbols, symbolOf}
+use Rattle.rules.specs.Slots.{packetBits, slots, symbols, symbolOf}
 use Rattle.rules.specs.Points.{firstPart, secondPart}
 use Rattle.rules.specs.Cells.{pointCell}
-use Rattle.rules.specs.Profile.{inRange, isLevel, all, in20}
+use Rattle.rules.specs.Profile.{inRange}
 use Rattle.rules.specs.Block.{Cells, sentBit, sentCell, heard}
 use Rattle.rules.specs.Demands.{heardInPlace, sentInPlace}
 use Rattle.rules.specs.declared.Profile.{Profile}
 use Rattle.cells.proofs.Inverse.{point-cell-lt}
 use Rattle.cells.proofs.Deciding.{gridCell, heard-sent}
+use Rattle.block.proofs.Ranges.{ranges}
 
 bit-lt : (P : Profile) (d : List ℕ) (t i : ℕ) → sentBit P d t i < 2
 unfolding sentBit
 bit-lt P d t i = omega arith
-
-level-of : (P : Profile) → T (inRange P) → T (isLevel (P .level))
-unfolding inRange
-level-of P t = and-l (isLevel (P .level)) _ (and-r (all in20 (P .masks)) _ t)
 
 -- packet p's slots are the block's
 slot-lt : (b : Bool) (p i : ℕ) → p < 16 → i < pick b 3000 2000 → (pick b 3000 2000 * p + i) / 1000 < 16 * pick b 3000 2000 / 1000
@@ -43,7 +39,7 @@ module _ (P : Profile) (d : List ℕ) (f s : List Float) (t : T (inRange P)) (c 
 
   slot-heard : (t i : ℕ) → t < slots (P .mode) → i < 1000 → heard f s t i ≡ sentBit P d t i
   slot-heard =
-      heard-sent (P .mode) (P .level) (sentBit P d) f s (level-of P t) (bit-lt P d)
+      heard-sent (P .mode) (P .level) (sentBit P d) f s (ranges P t .level) (bit-lt P d)
       (λ t i h l. c .firsts-are (gridCell t i) (at t i h l .0) ∙ ap firstPart (at t i h l .1))
       (λ t i h l. c .seconds-are (gridCell t i) (at t i h l .0) ∙ ap secondPart (at t i h l .1))
 

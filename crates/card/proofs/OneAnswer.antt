@@ -1,33 +1,25 @@
 -- A call can't lawfully answer in two ways: what the rules of receiving and hearing leave is one answer.
 use mathlib.Core.Path.{_≡_, refl, sym, ap, subst, _∙_}
-use mathlib.Core.Bool.{Bool, true, false, not}
 use mathlib.Core.List.{List}
-use Prim.Native.Nat.{ℕ, _+_, _-_, _*_, _/_, _%_, _^_, _<_, _≤_}
+use Prim.Native.Nat.{ℕ, _+_, _-_, _*_, _/_, _%_, _^_, _<_}
 use native.Mathlib.Decide.{ℕ-discrete, decLt}
 use native.Mathlib.Omega.{arith}
-use lib.Dec.{T, lit≤}
+use lib.Dec.{T}
 use lib.Ieee.{Float}
 use lib.ListN.{length}
 use lib.Seq.{ext-getD}
-use Rattle.rules.specs.Bits.{pick, row}
+use Rattle.rules.specs.Bits.{row}
 use Rattle.rules.specs.Outer.{isK}
 use Rattle.rules.specs.Slots.{slotBits, slots, symbolOf}
 use Rattle.rules.specs.Profile.{inRange}
 use Rattle.rules.specs.Block.{early, packetPart, decidedData, byteOf, lostMask, Delivered, Judged, Answered, HearRule}
 use Rattle.rules.specs.declared.Profile.{Profile}
 use Rattle.rules.specs.declared.Receipt.{Receipt}
-use Rattle.outer.proofs.Roots.{by-k, rate as outer-rate}
+use Rattle.outer.proofs.Roots.{k-range, rate as outer-rate}
 use Rattle.outer.proofs.Solve.{unique}
+use Rattle.block.proofs.Ranges.{ranges}
+use Rattle.block.proofs.Passed.{right}
 use Rattle.receiving.proofs.Mask.{mask-lt}
-use Rattle.card.proofs.Place.{k-of}
-
--- where no early number fits, the profile is in range
-in-range : (b : Bool) (n : ℕ) → pick (not b) 4 n ≡ 0 → T b
-in-range true n e = tt
-in-range false n e = absurd (omega arith)
-
-k-most : (k : ℕ) → T (isK k) → k ≤ 14
-k-most = by-k (λ (k : ℕ). k ≤ 14) (lit≤ tt) (lit≤ tt) (lit≤ tt)
 
 module _ {k lost : ℕ} {kept : ℕ → ℕ → ℕ} {before : List ℕ} (t : T (isK k)) (fits : lost < 2 ^ 16) where
   one-delivery : {after after' : List ℕ} {n m : ℕ}
@@ -44,7 +36,7 @@ module _ {k lost : ℕ} {kept : ℕ → ℕ → ℕ} {before : List ℕ} (t : T 
           let whole : 122 * p + j ≡ i = omega arith in
           let small : j < 122 = omega arith in
           let below : p < k = omega (arith, long) in
-          let most : k ≤ 14 = k-most k t in
+          let most = k-range k t in
           ap (row after) (sym whole) ∙ is p j below small
           ∙ unique fits few (outer-rate k t) (good j small .0) (good' j small .0) (good j small .1) (good' j small .1) p (omega arith)
           ∙ sym (is' p j below small) ∙ ap (row after') whole
@@ -66,7 +58,7 @@ module _ (P : Profile) (marks : ℕ) (before : List ℕ) where
       let kept : ℕ → ℕ → ℕ = (λ p. byteOf (decidedData (P .mode) (packetPart (P .mode) v p))) in
       let other : Delivered (P .k) (a .lost) kept before after' (b .number)
       = subst (λ (l : ℕ). Delivered (P .k) l kept before after' (b .number)) (sym lost) (y .delivered) in
-      let out = one-delivery (k-of P t) fits (x .delivered) other in
+      let out = one-delivery (ranges P t .k) fits (x .delivered) other in
       ((λ i. record { number = out .0 i; lost = lost i; reasons = reasons i }), out .1)
     where
       reasons : a .reasons ≡ b .reasons
@@ -88,7 +80,7 @@ module _ (P : Profile) (marks : ℕ) (before : List ℕ) where
   one-answer bytes firsts seconds cells v after after' a b x y = go (ℕ-discrete (early P bytes firsts seconds cells) 0)
     where
       go : Dec (early P bytes firsts seconds cells ≡ 0) → (a ≡ b) × (after ≡ after')
-      go (yes e) = one-judgement v after after' a b (in-range (inRange P) _ e) (x .judged e) (y .judged e)
+      go (yes e) = one-judgement v after after' a b (right P bytes firsts seconds cells e .range) (x .judged e) (y .judged e)
       go (no ne) =
           let p = x .refused ne in
           let q = y .refused ne in

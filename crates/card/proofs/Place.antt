@@ -9,14 +9,14 @@ use native.Mathlib.Decide.{ℕ-discrete}
 use native.Mathlib.Omega.{arith}
 use lib.Dec.{T, eqb}
 use lib.Ieee.{Float}
-use lib.Ieee.Fits.{and-l, and-r, eq→eqb}
+use lib.Ieee.Fits.{eq→eqb}
 use lib.ListN.{length}
 use borrow.Author.Tests.{eq-eqb, ne-eqb}
 use Rattle.rules.specs.Bits.{pick}
 use Rattle.rules.specs.Packet.{packetBit}
-use Rattle.rules.specs.Outer.{isK, marked}
+use Rattle.rules.specs.Outer.{marked}
 use Rattle.rules.specs.Slots.{isMode, slotBits, packetBits, coded, symbols}
-use Rattle.rules.specs.Profile.{inRange, isLevel, all, in20}
+use Rattle.rules.specs.Profile.{inRange}
 use Rattle.rules.specs.Block.{packet, scrambler, sentBit, heard, unscrambled, decided, packetPart, verdict, reason, ReceiveRule, Judged}
 use Rattle.rules.specs.Demands.{bitInPlace, heardInPlace, sentInPlace, SomePacket}
 use Rattle.rules.specs.declared.Profile.{Profile}
@@ -27,17 +27,7 @@ use Rattle.turbo.proofs.Accepted.{accepted-coded, coded-accepted}
 use Rattle.slots.proofs.Twice.{scrambling-lt, unscrambled-bit, unscrambled-twice}
 use Rattle.cells.proofs.Deciding.{decide-lt}
 
--- ---- what a profile in its range says
-
-pub mode-of : (P : Profile) → T (inRange P) → T (isMode (P .mode))
-unfolding inRange
-mode-of P t = and-l (isMode (P .mode)) _ (and-r (isLevel (P .level)) _ (and-r (all in20 (P .masks)) _ t))
-
-pub k-of : (P : Profile) → T (inRange P) → T (isK (P .k))
-unfolding inRange
-k-of P t = and-l (isK (P .k)) _ (and-r (isMode (P .mode)) _ (and-r (isLevel (P .level)) _ (and-r (all in20 (P .masks)) _ t)))
-
--- with it, and rooms of the right lengths, receiving judges
+-- with a profile in its range, and rooms of the right lengths, receiving judges
 pub judges : {P : Profile} {marks : ℕ} (f s : List Float) {before after : List ℕ} {a : Receipt}
     → ReceiveRule P marks f s before after a
     → T (inRange P)

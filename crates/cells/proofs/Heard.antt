@@ -7,7 +7,7 @@ use native.Mathlib.Decide.{ℕ-discrete, decLt}
 use native.Mathlib.Omega.{arith}
 use lib.Dec.{eqb}
 use lib.Ieee.{Float}
-use lib.ListN.{length, getD, set, take, drop}
+use lib.ListN.{length, getD, set, drop}
 use lib.Seq.{getD-take, getD-drop}
 use borrow.Author.Tests.{lt-ltb, le-ltb, le-leb, lt-leb, eq-eqb, ne-eqb}
 use Rattle.rules.specs.Bits.{pick, row}
@@ -177,10 +177,6 @@ module _ (m : ℕ) (f s : List Float) where
 
   pub heard-none : (l : List ℕ) → HeardTo m 0 f s l
   heard-none l g lt k = absurd (omega arith)
-
-  pub heard-more : (y : ℕ) (b l : List ℕ) → HeardTo m y f s b
-      → Holds 0 (slotBits m * slots m) (decidedIn m y (symbolPart y f) (symbolPart y s) b) l → HeardTo m (y + 1) f s l
-  heard-more y b l h r g lt k = r .each g lt ∙ decided-in y b h g lt k
 
   pub heard-all : (l : List ℕ) → HeardTo m (symbols m) f s l
       → (g : ℕ) → g < slotBits m * slots m → row l g ≡ heard f s (g / slotBits m) (g % slotBits m)

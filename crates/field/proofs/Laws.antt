@@ -2,17 +2,16 @@
 -- The product is additive in both arguments, and each number below 256 is a sum of 1, 2, 4 .. 128: it commutes, since a computed test of these passes.
 -- It is associative, since doubling goes out of either factor. Each element but zero is a power of α, by a computed test, and so has an inverse.
 use mathlib.Core.Path.{_≡_, refl, sym, ap, ap₂, _∙_}
-use mathlib.Core.Bool.{Bool, true, false, _&&_, _||_, not}
+use mathlib.Core.Bool.{Bool, true, false, _||_, not}
 use mathlib.Core.List.{List, [], _∷_}
 use Prim.Native.Nat.{ℕ, zero, suc, _+_, _*_, _/_, _%_, _^_, _<_}
 use native.Mathlib.Nat.{zero-mul, one-mul, mod-lt, mod-mod, mod-eq-of-lt, add-zero, mul-zero, zero-add, suc-add, mul-suc, mul-comm}
-use native.Mathlib.Decide.{ℕ-discrete}
 use native.Mathlib.Omega.{arith}
 use lib.Arith.{bin-ind, lt-one}
 use lib.Bits.{xor-shr, xor-add-and, xor-mod, xor-block, xor-comm, xor-self, xor-zero-r, xor-lt, xor-shifted}
 use lib.Pow.{pow-pos, pow-add, split, shr-lt}
 use lib.Dec.{T, T-not, eqb, eqb→eq, lit<}
-use lib.Ieee.Fits.{and-l, and-r, eq→eqb}
+use lib.Ieee.Fits.{eq→eqb}
 use Rattle.rules.specs.Bits.{everyBelow}
 use Rattle.laws.specs.Every.{every-at}
 use Rattle.rules.specs.Field.{_⊕_, _⊗_, double, times, power, alpha, inverse, polynomial}
@@ -33,9 +32,6 @@ pub ⊕-comm : (a b : ℕ) → a ⊕ b ≡ b ⊕ a
 
 pub ⊕-self : (a : ℕ) → a ⊕ a ≡ 0
 ⊕-self = xor-self
-
-pub ⊕-zero-l : (a : ℕ) → 0 ⊕ a ≡ a
-⊕-zero-l a = refl
 
 pub ⊕-zero-r : (a : ℕ) → a ⊕ 0 ≡ a
 ⊕-zero-r = xor-zero-r
@@ -245,9 +241,6 @@ pub alpha-is : (k : ℕ) → alpha k ≡ power 2 k
 unfolding alpha power
 alpha-is zero = refl
 alpha-is (suc k) = double-is (alpha k) (alpha-lt k) ∙ ap (_⊗_ 2) (alpha-is k)
-
-pub alpha-add : (j k : ℕ) → alpha (j + k) ≡ alpha j ⊗ alpha k
-alpha-add j k = alpha-is (j + k) ∙ power-add 2 j k ∙ sym (ap₂ _⊗_ (alpha-is j) (alpha-is k))
 
 pub alpha-mul : (j k : ℕ) → power (alpha j) k ≡ alpha (j * k)
 alpha-mul j k = ap (λ (x : ℕ). power x k) (alpha-is j) ∙ power-mul 2 j k ∙ sym (alpha-is (j * k))

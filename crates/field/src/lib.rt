@@ -1,6 +1,5 @@
 // GF(256) as document 01's outer code has it.
 ghost use mathlib.Core.Path.{_≡_};
-ghost use Prim.Native.Nat.{ℕ};
 ghost use Rattle.rules.specs.Field as rule;
 ghost use Rattle.rules.specs.Field.{_⊕_, _⊗_, double};
 

@@ -5,13 +5,12 @@ use Prim.Native.Nat.{ℕ, _+_, _*_, _/_, _%_, _<_}
 use native.Mathlib.Decide.{ℕ-discrete}
 use native.Mathlib.Omega.{arith}
 use lib.Dec.{T}
-use lib.Ieee.{Float}
-use lib.ListN.{length, replicate, getD-replicate}
+use lib.ListN.{length, getD-replicate}
 use lib.Seq.{ext-getD}
 use Rattle.rules.specs.Bits.{row}
 use Rattle.rules.specs.Answers.{isNumber, isReason, outcomeNumber}
 use Rattle.rules.specs.Outer.{ParityMade}
-use Rattle.rules.specs.Profile.{reading, writing}
+use Rattle.rules.specs.Profile.{reading}
 use Rattle.rules.specs.declared.Outcome.{Outcome}
 use Rattle.rules.specs.declared.Outcome.the-variants.{Done, BadK, BadLength, TooManyLost, NoCodeword}
 use Rattle.rules.specs.declared.Profile.{Profile}
@@ -19,7 +18,7 @@ use Rattle.rules.specs.declared.Writing.{Writing}
 use Rattle.rules.specs.declared.Receipt.{Receipt}
 use Rattle.card.proofs.D1.{d1}
 use Rattle.card.proofs.D2.{d2}
-use Rattle.flo.specs.Calls.{AfterReading, FloSend, FloSendSymbol, FloReceive, FloReadProfile, FloWriteProfile, FloParity}
+use Rattle.flo.specs.Calls.{AfterReading}
 use Rattle.flo.specs.Demands.{CallsTold, CallsOne}
 
 -- by cases: reading is refused, or the call's rule holds of the profile that was read

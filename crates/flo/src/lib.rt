@@ -1,6 +1,4 @@
 // The C interface, thin: include/flo.h says each call's rule in words.
-ghost use mathlib.Core.Path.{_≡_};
-ghost use Prim.Native.Nat.{ℕ};
 ghost use Rattle.flo.specs.Calls.{FloSend, FloSendSymbol, FloReceive, FloReadProfile, FloWriteProfile, FloParity};
 use rules::Outcome;
 use rules::Profile;

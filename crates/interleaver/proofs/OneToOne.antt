@@ -31,9 +31,6 @@ module _ (n : ℕ) (D : ℕ → ℕ) where
   low : (m : ℕ) → address n D m % 2 ^ n ≡ D (m % 32) * (m / 32 + 1) % 2 ^ n
   low m = rw (digits m) (digits-mod (reversed (m % 32)) (low-lt m))
 
-  pub address-lt : (m : ℕ) → address n D m < 32 * 2 ^ n
-  address-lt m = rw (digits m) (digits-lt (reversed-lt (m % 32)) (low-lt m))
-
   address-of : (x i : ℕ) → i < 32 → address n D (x * 32 + i) ≡ 2 ^ n * reversed i + D i * (x + 1) % 2 ^ n
   unfolding address
   address-of x i lt = rw (digits-mod x lt, digits-div x lt)

@@ -1,6 +1,6 @@
 // The turbo interleaver at width 5 and length 994.
 ghost use mathlib.Core.Path.{_≡_};
-ghost use Prim.Native.Nat.{ℕ, _<_};
+ghost use Prim.Native.Nat.{_<_};
 ghost use Rattle.rules.specs.Bits.{row};
 ghost use Rattle.rules.specs.Interleaver as rule;
 ghost use Rattle.rules.specs.Interleaver.{tableD, nextKept, interleaved};

@@ -9,7 +9,7 @@ ghost use Rattle.outer.specs.Solve as solve;
 ghost use Rattle.outer.specs.Solve.{lostAt};
 ghost use Rattle.outer.specs.Steps.{Put};
 
-pub fn lost_at(lost: u16, p: usize) -> bool
+pub(crate) fn lost_at(lost: u16, p: usize) -> bool
     requires { ⌜ p < 16 ⌝ }
     ensures { λ b. ⌜ b ≡ lostAt lost p ⌝ }
 {
@@ -17,7 +17,7 @@ pub fn lost_at(lost: u16, p: usize) -> bool
 }
 
 // Column j, with zero for the lost bytes.
-pub fn kept(lost: u16, block: &[u8], j: usize) -> [u8; 16]
+pub(crate) fn kept(lost: u16, block: &[u8], j: usize) -> [u8; 16]
     requires { ⌜ (length (now block) ≡ 1952) × (j < 122) ⌝ }
     ensures { λ c. ⌜ Holds 0 16 (solve.kept lost (column (now (block .entry)) j)) c ⌝ }
 {
@@ -31,7 +31,7 @@ pub fn kept(lost: u16, block: &[u8], j: usize) -> [u8; 16]
 }
 
 // Writes column j.
-pub fn put(c: [u8; 16], j: usize, block: &mut [u8])
+pub(crate) fn put(c: [u8; 16], j: usize, block: &mut [u8])
     requires { ⌜ (length (now block) ≡ 1952) × (j < 122) ⌝ }
     ensures { λ _. ⌜ Put (row c) j (now (block .entry)) (now (block .exit)) ⌝ }
 {
@@ -40,7 +40,7 @@ pub fn put(c: [u8; 16], j: usize, block: &mut [u8])
     }
 }
 
-pub fn copy(from: &[u8], to: &mut [u8])
+pub(crate) fn copy(from: &[u8], to: &mut [u8])
     requires { ⌜ length (now from) ≡ length (now to) ⌝ }
     ensures { λ _. ⌜ now (to .exit) ≡ now (from .entry) ⌝ }
 {

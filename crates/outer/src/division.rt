@@ -62,7 +62,7 @@ fn remainder(r: usize, c: [u8; 16]) -> [u8; 8]
 }
 
 // The codeword that starts with the first 16 - r bytes.
-pub fn encoded(r: usize, c: [u8; 16]) -> [u8; 16]
+pub(crate) fn encoded(r: usize, c: [u8; 16]) -> [u8; 16]
     requires { ⌜ r ≤ 8 ⌝ }
     ensures { λ w. ⌜ Holds 0 16 (rule.encoded r (row c)) w ⌝ }
 {
@@ -75,7 +75,7 @@ pub fn encoded(r: usize, c: [u8; 16]) -> [u8; 16]
     w
 }
 
-pub fn is_codeword(r: usize, c: [u8; 16]) -> bool
+pub(crate) fn is_codeword(r: usize, c: [u8; 16]) -> bool
     requires { ⌜ r ≤ 8 ⌝ }
     ensures { λ b. ⌜ Says (Codeword r (row c)) b ⌝ }
 {

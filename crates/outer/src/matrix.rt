@@ -95,7 +95,7 @@ fn entries(r: usize, lost: u16, p: usize) -> [u8; 8]
 }
 
 // A row for each lost packet, in their order.
-pub fn rows(r: usize, lost: u16) -> [[u8; 8]; 8]
+pub(crate) fn rows(r: usize, lost: u16) -> [[u8; 8]; 8]
     requires { ⌜ (r ≤ 8) × (ones lost ≤ 8) ⌝ }
     ensures { λ m. ⌜ Rows 16 r lost m ⌝ }
 {

@@ -85,7 +85,7 @@ fn solved(r: usize, lost: u16, x: [u8; 8], m: [[u8; 8]; 8], block: &[u8], j: usi
 }
 
 // All columns to out, up to one that has no codeword.
-pub fn all_solved(r: usize, lost: u16, m: [[u8; 8]; 8], block: &[u8], out: &mut [u8]) -> bool
+pub(crate) fn all_solved(r: usize, lost: u16, m: [[u8; 8]; 8], block: &[u8], out: &mut [u8]) -> bool
     requires { ⌜ (r ≤ 8) × (ones lost ≤ 8) × Rows 16 r lost m × (length (now block) ≡ 1952) × (length (now out) ≡ 1952) ⌝ }
     ensures { λ b. ⌜ Works r lost (now (block .entry)) (now (out .exit)) b ⌝ }
 {

@@ -1,11 +1,11 @@
 // A packet's bits and its check word. A bit is a byte that is 0 or 1.
 ghost use mathlib.Core.Path.{_≡_};
 ghost use mathlib.Core.Bool.{_&&_};
-ghost use Prim.Native.Nat.{ℕ, _<_, _≤_};
+ghost use Prim.Native.Nat.{_<_, _≤_};
 ghost use lib.Dec.{eqb};
 ghost use lib.ListN.{length};
 ghost use Rattle.rules.specs.Bits.{row, bitOf};
-ghost use Rattle.rules.specs.Packet.{checkStep, checkRegister, checkWord, packetBit};
+ghost use Rattle.rules.specs.Packet.{checkStep, checkWord, packetBit};
 ghost use Rattle.rules.specs.Block.{byteOf, checkRight, reservedRight};
 ghost use Rattle.laws.specs.Holds.{Holds};
 ghost use Rattle.laws.specs.Rows.{Bits};

@@ -1,14 +1,12 @@
 -- Storing the fields one after another gives the written bytes.
 use mathlib.Core.Path.{_≡_, refl, _∙_, ap}
-use mathlib.Core.Bool.{Bool, true, false}
+use mathlib.Core.Bool.{true}
 use mathlib.Core.List.{List, [], _∷_, _++_}
 use Prim.Native.Nat.{ℕ, zero, suc, _+_, _*_, _/_, _%_, _<_, _≤_}
 use native.Mathlib.Omega.{arith}
-use lib.Dec.{eqb}
 use lib.ListN.{length, take, drop, replicate, length-append, drop-of-length-le}
 use lib.Seq.{length-take-le, sets}
-use Rattle.rules.specs.Bits.{pick}
-use Rattle.rules.specs.Profile.{Field, allBytes, fields, fieldBytes, largest, written, writing, inRange}
+use Rattle.rules.specs.Profile.{Field, fields, fieldBytes, largest, written, writing, inRange}
 use Rattle.rules.specs.Slots.{slots}
 use Rattle.rules.specs.declared.Profile.{Profile}
 use Rattle.profile.specs.Fields.{field, many}

@@ -8,10 +8,10 @@ use super::numbers;
 use super::ranges;
 use rules::Profile;
 
-pub const FIELDS: usize = 5;
+pub(crate) const FIELDS: usize = 5;
 
 // The length due after what was read before the field.
-pub fn due(i: usize, p: Profile) -> usize
+pub(crate) fn due(i: usize, p: Profile) -> usize
     requires { ⌜ i < many ⌝ }
     ensures { λ r. ⌜ (r ≡ field i .due p) × (r < 256) ⌝ }
 {
@@ -25,7 +25,7 @@ pub fn due(i: usize, p: Profile) -> usize
 }
 
 // Whether the field's value is in its range.
-pub fn good(i: usize, p: Profile) -> bool
+pub(crate) fn good(i: usize, p: Profile) -> bool
     requires { ⌜ i < many ⌝ }
     ensures { λ r. ⌜ r ≡ field i .good p ⌝ }
 {
@@ -45,7 +45,7 @@ pub fn good(i: usize, p: Profile) -> bool
 }
 
 // The profile with the value that stands in s.
-pub fn with_value(i: usize, mut p: Profile, s: &[u8]) -> Profile
+pub(crate) fn with_value(i: usize, mut p: Profile, s: &[u8]) -> Profile
     requires { ⌜ i < many ⌝ }
     requires { ⌜ length (now s) ≡ field i .due p ⌝ }
     ensures { λ r. ⌜ r ≡ field i .with p (now (s .entry)) ⌝ }
@@ -76,7 +76,7 @@ pub fn with_value(i: usize, mut p: Profile, s: &[u8]) -> Profile
 }
 
 // The field's value, stored from a position on.
-pub fn put_value(i: usize, p: Profile, s: &mut [u8], at: usize)
+pub(crate) fn put_value(i: usize, p: Profile, s: &mut [u8], at: usize)
     requires { ⌜ i < many ⌝ }
     requires { ⌜ at + field i .due p ≤ length (now s) ⌝ }
     ensures { λ _. ⌜ now (s .exit) ≡ sets (now (s .entry)) at (field i .bytes p) ⌝ }

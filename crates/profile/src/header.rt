@@ -15,7 +15,7 @@ fn pair(b0: u8, b1: u8) -> usize
 
 // What stands at a position: 0 where it is a whole field with this tag and this length, else the number of the refusal: nothing left 5, header
 // cut 1, tag 2, length 3, value cut 1.
-pub fn judge(s: &[u8], at: usize, tag: u8, due: usize) -> u32
+pub(crate) fn judge(s: &[u8], at: usize, tag: u8, due: usize) -> u32
     ensures { λ r. ⌜ r ≡ heading tag due (drop at (now (s .entry))) ⌝ }
 {
     if s.len() <= at {
@@ -36,7 +36,7 @@ pub fn judge(s: &[u8], at: usize, tag: u8, due: usize) -> u32
 }
 
 // What stands after the last field: 0 where it is nothing, else the number of the refusal: fewer than three bytes 1, else 2.
-pub fn ending(s: &[u8], at: usize) -> u32
+pub(crate) fn ending(s: &[u8], at: usize) -> u32
     ensures { λ r. ⌜ r ≡ endingOf (drop at (now (s .entry))) ⌝ }
 {
     if s.len() <= at {
@@ -46,7 +46,7 @@ pub fn ending(s: &[u8], at: usize) -> u32
 }
 
 // A field's tag and length, stored from a position on.
-pub fn put(s: &mut [u8], at: usize, tag: u8, due: usize)
+pub(crate) fn put(s: &mut [u8], at: usize, tag: u8, due: usize)
     requires { ⌜ (at + 3 ≤ length (now s)) × (due < 65536) ⌝ }
     ensures { λ _. ⌜ now (s .exit) ≡ sets (now (s .entry)) at (tag ∷ due / 256 ∷ due % 256 ∷ []) ⌝ }
 {

@@ -30,7 +30,7 @@ fn fill(room: &mut [u32], s: &[u8])
 }
 
 // The masks in field 1's value.
-pub fn masks_of(s: &[u8]) -> [u32; 8]
+pub(crate) fn masks_of(s: &[u8]) -> [u32; 8]
     requires { ⌜ length (now s) ≡ 32 ⌝ }
     ensures { λ r. ⌜ r ≡ words 8 (now (s .entry)) ⌝ }
 {
@@ -40,7 +40,7 @@ pub fn masks_of(s: &[u8]) -> [u32; 8]
 }
 
 // The seeds in field 5's value, and zeros after them.
-pub fn seeds_of(mode: u8, s: &[u8]) -> [u32; 48]
+pub(crate) fn seeds_of(mode: u8, s: &[u8]) -> [u32; 48]
     requires { ⌜ length (now s) ≡ 4 * slotsOf mode ⌝ }
     ensures { λ r. ⌜ r ≡ words (slotsOf mode) (now (s .entry)) ++ replicate (48 - slotsOf mode) 0 ⌝ }
 {
@@ -51,7 +51,7 @@ pub fn seeds_of(mode: u8, s: &[u8]) -> [u32; 48]
 }
 
 // The number in a value of one byte.
-pub fn byte_of(s: &[u8]) -> u8
+pub(crate) fn byte_of(s: &[u8]) -> u8
     requires { ⌜ length (now s) ≡ 1 ⌝ }
     ensures { λ r. ⌜ r ≡ number (now (s .entry)) ⌝ }
 {
@@ -59,7 +59,7 @@ pub fn byte_of(s: &[u8]) -> u8
 }
 
 // D in field 2's value.
-pub fn level_of(s: &[u8]) -> f32
+pub(crate) fn level_of(s: &[u8]) -> f32
     requires { ⌜ length (now s) ≡ 4 ⌝ }
     ensures { λ r. ⌜ r ≡ Ieee.ofBits binary32 (number (now (s .entry))) ⌝ }
 {
@@ -67,7 +67,7 @@ pub fn level_of(s: &[u8]) -> f32
 }
 
 // A number of four bytes, stored from a position on.
-pub fn put_word(s: &mut [u8], at: usize, x: u32)
+pub(crate) fn put_word(s: &mut [u8], at: usize, x: u32)
     requires { ⌜ at + 4 ≤ length (now s) ⌝ }
     ensures { λ _. ⌜ now (s .exit) ≡ sets (now (s .entry)) at (wordBytes x) ⌝ }
 {
@@ -78,7 +78,7 @@ pub fn put_word(s: &mut [u8], at: usize, x: u32)
 }
 
 // Numbers of four bytes, stored one after another.
-pub fn put_words(s: &mut [u8], at: usize, l: &[u32])
+pub(crate) fn put_words(s: &mut [u8], at: usize, l: &[u32])
     requires { ⌜ at + 4 * length (now l) ≤ length (now s) ⌝ }
     ensures { λ _. ⌜ now (s .exit) ≡ sets (now (s .entry)) at (allBytes (now (l .entry))) ⌝ }
 {

@@ -15,7 +15,7 @@ const MOST: f32 = 3.40282347e38;
 const LIMIT: u32 = 1_048_576;
 
 // How many slots a mode has.
-pub fn slots(mode: u8) -> usize
+pub(crate) fn slots(mode: u8) -> usize
     ensures { λ r. ⌜ (r ≡ slotsOf mode) × (r ≤ 48) ⌝ }
 {
     if mode == 0 { 48 } else { 32 }
@@ -43,35 +43,35 @@ fn all_between(l: &[u32], low: u32, high: u32) -> bool
 }
 
 // Field 1.
-pub fn masks_good(masks: [u32; 8]) -> bool
+pub(crate) fn masks_good(masks: [u32; 8]) -> bool
     ensures { λ r. ⌜ r ≡ all in20 masks ⌝ }
 {
     all_between(&masks, 1, LIMIT)
 }
 
 // Field 2: D is positive, finite and normal; a NaN fails both tests.
-pub fn level_good(level: f32) -> bool
+pub(crate) fn level_good(level: f32) -> bool
     ensures { λ r. ⌜ r ≡ isLevel level ⌝ }
 {
     LEAST <= level && level <= MOST
 }
 
 // Field 3.
-pub fn mode_good(mode: u8) -> bool
+pub(crate) fn mode_good(mode: u8) -> bool
     ensures { λ r. ⌜ r ≡ isMode mode ⌝ }
 {
     mode < 2
 }
 
 // Field 4.
-pub fn k_good(k: u8) -> bool
+pub(crate) fn k_good(k: u8) -> bool
     ensures { λ r. ⌜ r ≡ isK k ⌝ }
 {
     k == 8 || k == 12 || k == 14
 }
 
 // Field 5: as many seeds as the mode has slots, and zeros after them.
-pub fn seeds_good(mode: u8, seeds: [u32; 48]) -> bool
+pub(crate) fn seeds_good(mode: u8, seeds: [u32; 48]) -> bool
     ensures { λ r. ⌜ r ≡ areSeeds mode seeds ⌝ }
 {
     let n = slots(mode);

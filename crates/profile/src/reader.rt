@@ -9,21 +9,21 @@ use super::header;
 use rules::Profile;
 
 // A lent profile, and a position in it.
-pub struct Reader<'a> {
-    pub src: &'a [u8],
-    pub at: usize,
+pub(crate) struct Reader<'a> {
+    pub(crate) src: &'a [u8],
+    pub(crate) at: usize,
 }
 
 // What taking a field answers: at 0 the position after the field and the profile with its value, else the number of the refusal and both as they
 // were.
-pub struct Step {
-    pub number: u32,
-    pub at: usize,
-    pub profile: Profile,
+pub(crate) struct Step {
+    pub(crate) number: u32,
+    pub(crate) at: usize,
+    pub(crate) profile: Profile,
 }
 
 // Takes field i at a position of a slice: its header, its value, its range.
-pub fn take(s: &[u8], at: usize, i: usize, p: Profile) -> Step
+pub(crate) fn take(s: &[u8], at: usize, i: usize, p: Profile) -> Step
     requires { ⌜ i < many ⌝ }
     ensures { λ r. ⌜ r ≡ taken i p (now (s .entry)) at ⌝ }
 {
@@ -53,21 +53,21 @@ pub fn take(s: &[u8], at: usize, i: usize, p: Profile) -> Step
 }
 
 // At the start of a profile.
-pub fn new<'a>(src: &'a [u8]) -> Reader<'a>
+pub(crate) fn new<'a>(src: &'a [u8]) -> Reader<'a>
     ensures { λ r. ⌜ (r .src ≡ src .entry) × (r .at ≡ 0) ⌝ }
 {
     Reader { src, at: 0 }
 }
 
 // At another position of the same profile.
-pub fn moved<'a>(r: Reader<'a>, at: usize) -> Reader<'a>
+pub(crate) fn moved<'a>(r: Reader<'a>, at: usize) -> Reader<'a>
     ensures { λ q. ⌜ (q .src ≡ r .entry .src) × (q .at ≡ at) ⌝ }
 {
     Reader { src: r.src, at }
 }
 
 // Takes field i where the reader stands.
-pub fn next<'a>(r: Reader<'a>, i: usize, p: Profile) -> Step
+pub(crate) fn next<'a>(r: Reader<'a>, i: usize, p: Profile) -> Step
     requires { ⌜ i < many ⌝ }
     ensures { λ t. ⌜ t ≡ taken i p (now (r .entry .src)) (r .entry .at) ⌝ }
 {
@@ -75,7 +75,7 @@ pub fn next<'a>(r: Reader<'a>, i: usize, p: Profile) -> Step
 }
 
 // Takes field i at a position, by a reader of its own: whoever calls it holds no reader.
-pub fn field_at(s: &[u8], at: usize, i: usize, p: Profile) -> Step
+pub(crate) fn field_at(s: &[u8], at: usize, i: usize, p: Profile) -> Step
     requires { ⌜ i < many ⌝ }
     ensures { λ r. ⌜ r ≡ taken i p (now (s .entry)) at ⌝ }
 {

@@ -3,10 +3,9 @@ use mathlib.Core.Path.{_≡_}
 use mathlib.Core.List.{List}
 use Prim.Native.Nat.{ℕ, _*_, _/_, _%_}
 use lib.Dec.{eqb}
-use Rattle.rules.specs.Bits.{pick, row}
+use Rattle.rules.specs.Bits.{pick}
 use Rattle.rules.specs.Outer.{marked}
-use Rattle.rules.specs.Slots.{slotNumber, scrambling}
-use Rattle.rules.specs.Block.{unscrambled, packetPart, decidedData, byteOf, reason, lostMask}
+use Rattle.rules.specs.Block.{packetPart, decidedData, byteOf, reason, lostMask}
 use Rattle.rules.specs.declared.Judgement.{Judgement}
 use Rattle.laws.specs.Holds.{Holds}
 use Rattle.laws.specs.Filled.{upTo}

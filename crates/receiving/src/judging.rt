@@ -120,7 +120,7 @@ fn deliver(k: u8, lost: u16, block: [u8; 1952], data: &mut [u8]) -> u32
 }
 
 // Judges a block's bits, still scrambled, and delivers the data.
-pub fn judge(p: Profile, marks: u16, bits: [u8; 48000], data: &mut [u8]) -> Receipt
+pub(crate) fn judge(p: Profile, marks: u16, bits: [u8; 48000], data: &mut [u8]) -> Receipt
     requires { ⌜ T (inRange p) × (length (now «data») ≡ 122 * p .k) ⌝ }
     ensures { λ r. ⌜ Judged p marks (understood p bits) (now («data» .entry)) (now («data» .exit)) r ⌝ }
 {

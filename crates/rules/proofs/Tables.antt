@@ -1,7 +1,7 @@
 -- Each table of the rules, held against something that a wrong digit breaks.
 use mathlib.Core.Path.{_≡_, refl}
-use mathlib.Core.Bool.{Bool, true, false, _&&_, Bool·beq}
-use mathlib.Core.List.{List, [], _∷_}
+use mathlib.Core.Bool.{Bool, true, _&&_, Bool·beq}
+use mathlib.Core.List.{[], _∷_}
 use Prim.Native.Nat.{ℕ, zero, suc, _+_, _-_, _*_, _/_}
 use lib.Dec.{T, eqb, leb, ltb}
 use Rattle.rules.specs.Bits.{pick, row, bitOf, byteBit}

@@ -1,7 +1,7 @@
 -- Document 01, "What the desk says back": the numbers, and what each case of an answer that is an enum stands for.
 use mathlib.Core.Bool.{Bool, _||_, _&&_}
 use Prim.Native.Nat.{ℕ}
-use lib.Dec.{eqb, leb, ltb}
+use lib.Dec.{eqb, leb}
 use Rattle.rules.specs.declared.Outcome.{Outcome}
 use Rattle.rules.specs.declared.Outcome.the-variants.{Done, BadK, BadLength, TooManyLost, NoCodeword}
 use Rattle.rules.specs.declared.Coding.{Coding}

@@ -1,6 +1,6 @@
 -- Document 01: the block that is sent, and the answer that receiving gives.
 use mathlib.Core.Path.{_≡_}
-use mathlib.Core.Bool.{Bool, true, false, not, _&&_}
+use mathlib.Core.Bool.{Bool, not, _&&_}
 use mathlib.Core.List.{List}
 use Prim.Native.Nat.{ℕ, zero, suc, _+_, _-_, _*_, _/_, _%_, _^_, _<_, _≤_}
 use lib.Count.{ones}
@@ -8,11 +8,11 @@ use lib.Dec.{eqb, ltb}
 use lib.Ieee.{Float}
 use lib.ListN.{length, getD, replicate, take, drop}
 use Rattle.rules.specs.Bits.{pick, row, bitOf, everyBelow}
-use Rattle.rules.specs.Packet.{packetBit, checkWord}
+use Rattle.rules.specs.Packet.{checkWord}
 use Rattle.rules.specs.Outer.{encoded, Codeword, Agree, marked}
 use Rattle.rules.specs.Interleaver.{bitDeinterleaved}
 use Rattle.rules.specs.Turbo.{dataPlace}
-use Rattle.rules.specs.Slots.{rate, slotBits, packetBits, slots, symbols, entered, coded, blockBit, symbolOf, slotNumber, scrambling}
+use Rattle.rules.specs.Slots.{rate, slotBits, packetBits, slots, symbols, coded, blockBit, symbolOf, slotNumber, scrambling}
 use Rattle.rules.specs.Points.{zeroPart, pointOf, firstPart, secondPart, doubtful, decide}
 use Rattle.rules.specs.Cells.{carried, pointCell}
 use Rattle.rules.specs.Profile.{inRange}

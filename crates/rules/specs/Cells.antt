@@ -1,6 +1,6 @@
 -- Document 01, "Slots, scrambling, points": places, interlaces and cells; which point a cell carries.
-use mathlib.Core.Bool.{Bool, true, false, _&&_, _||_}
-use Prim.Native.Nat.{ℕ, suc, _+_, _-_, _*_, _/_, _%_}
+use mathlib.Core.Bool.{_&&_, _||_}
+use Prim.Native.Nat.{ℕ, _+_, _-_, _*_, _/_, _%_}
 use lib.Dec.{eqb, leb, ltb}
 use Rattle.rules.specs.Bits.{pick}
 use Rattle.rules.specs.Slots.{slots, symbolOf, slotNumber}

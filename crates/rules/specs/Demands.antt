@@ -1,7 +1,6 @@
 -- The founder's three sentences as propositions about the calls' rules. That every call comes back, with no `requires`, and answers by its rule is
 -- each function's own contract; card/proofs proves these.
 use mathlib.Core.Path.{_≡_}
-use mathlib.Core.Bool.{Bool}
 use mathlib.Core.List.{List}
 use mathlib.Core.Logic.{_⊎_, _↔_}
 use Prim.Native.Nat.{ℕ, _+_, _-_, _*_, _/_, _%_, _<_, _≤_}
@@ -18,8 +17,6 @@ use Rattle.rules.specs.Profile.{inRange, Shape, reading, writing, writte
 use Rattle.rules.specs.Answers.{isNumber, isReason}
 use Rattle.rules.specs.Block.{scrambler, sentBit, heard, Cells, SendRule, SendSymbolRule, ReceiveRule, HearRule, ConcludeRule, InTurn}
 use Rattle.rules.specs.declared.Profile.{Profile}
-use Rattle.rules.specs.declared.Reading.{Reading}
-use Rattle.rules.specs.declared.Writing.{Writing}
 use Rattle.rules.specs.declared.Receipt.{Receipt}
 
 -- ---- 1. Whatever arrives, the answer is a number from the table, and a refusal leaves the lent memory holding what it held

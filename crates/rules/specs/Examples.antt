@@ -1,7 +1,7 @@
 -- Document 01, "Bench examples", those marked P: what the rules give, and what the document says.
 use mathlib.Core.Path.{_≡_}
 use mathlib.Core.List.{List, [], _∷_}
-use Prim.Native.Nat.{ℕ, zero, suc, _+_}
+use Prim.Native.Nat.{ℕ, zero, suc}
 use lib.Dec.{eqb}
 use lib.Ieee.{binary32, ofBits, toBits}
 use Rattle.rules.specs.Bits.{pick, row}

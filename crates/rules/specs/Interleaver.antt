@@ -1,9 +1,8 @@
 -- Document 01, "Turbo code": the turbo interleaver of 002, over the width n, the table D and the length; and the bit interleaver.
-use mathlib.Core.Bool.{Bool, true, false}
+use mathlib.Core.Bool.{true, false}
 use mathlib.Core.List.{List, [], _∷_}
 use Prim.Native.Nat.{ℕ, zero, suc, _+_, _*_, _/_, _%_, _^_}
 use lib.Dec.{ltb}
-use Rattle.rules.specs.Bits.{row}
 
 -- D, from 0
 abbrev pub tableD : List ℕ

@@ -1,16 +1,17 @@
 -- A turn of the loop that codes a block's packets one after the other.
 use mathlib.Core.Path.{_≡_, sym, _∙_, ap₂, subst}
+use mathlib.Core.Bool.{Bool, true, false, not, _&&_}
 use mathlib.Core.List.{List}
 use Prim.Native.Nat.{ℕ, _+_, _*_, _/_, _%_, _<_, _≤_}
 use native.Mathlib.Nat.{mul-zero}
 use native.Mathlib.Omega.{arith}
-use lib.Dec.{T}
+use lib.Dec.{T, eqb}
 use lib.ListN.{length, replicate}
-use Rattle.rules.specs.Bits.{row}
+use borrow.Author.Tests.{eq-eqb}
+use Rattle.rules.specs.Bits.{pick, row}
 use Rattle.rules.specs.Packet.{packetBit}
 use Rattle.rules.specs.Slots.{isMode, packetBits, coded, blockBit}
 use Rattle.rules.specs.declared.Coding.{Coding}
-use Rattle.rules.specs.declared.Coding.the-variants.{Coded, WrongMode, WrongLength}
 use Rattle.laws.specs.Holds.{Holds}
 use Rattle.laws.specs.Filled.{holds-new}
 use Rattle.packet.proofs.Bits.{packet-same}
@@ -22,9 +23,11 @@ use Rattle.sending.specs.Steps.{codedRow}
 -- 122 bytes and the room that a packet of the mode needs are coded
 coded-of : (m : ℕ) (d before after : List ℕ) (r : Coding) → T (isMode m) → length d ≡ 122 → length before ≡ packetBits m
     → CodingRule m d before after r → Holds 0 (packetBits m) (coded m (packetBit (row d))) after
-coded-of m d before after Coded t e f rule = rule .3
-coded-of m d before after WrongMode t e f rule = absurd (rule .0 t)
-coded-of m d before after WrongLength t e f rule = absurd (rule .1 (e, f))
+coded-of m d before after r t e f rule = rule .bits (rule .answer ∙ go (isMode m) t)
+  where
+    go : (b : Bool) → T b → pick {A = ℕ} (not b) 4 (pick (not (eqb (length d) 122 && eqb (length before) (packetBits m))) 6 0) ≡ 0
+    go true t = rw (eq-eqb (length d) 122 e, eq-eqb (length before) (packetBits m) f)
+    go false t = absurd t
 
 -- before the first turn
 pub coded-none : (m n : ℕ) (block : List ℕ) → Holds 0 48000 (codedRow m (n * 0) block) (replicate 48000 0)

@@ -5,7 +5,7 @@ use Prim.Native.Nat.{ℕ, _+_, _-_, _*_, _<_}
 use native.Mathlib.Omega.{arith}
 use lib.Dec.{T}
 use Rattle.rules.specs.Bits.{row}
-use Rattle.rules.specs.Outer.{isK, column, ParityMade}
+use Rattle.rules.specs.Outer.{isK, ParityMade}
 use Rattle.rules.specs.Block.{packet}
 use Rattle.rules.specs.declared.Outcome.{Outcome}
 use Rattle.rules.specs.declared.Outcome.the-variants.{Done, BadK, BadLength, TooManyLost, NoCodeword}

@@ -3,9 +3,8 @@ use mathlib.Core.List.{List}
 use Prim.Native.Nat.{ℕ, _+_, _*_, _/_, _%_}
 use lib.Ieee.{Float}
 use Rattle.rules.specs.Bits.{row}
-use Rattle.rules.specs.Slots.{symbols, blockBit, slotNumber, scrambling}
+use Rattle.rules.specs.Slots.{symbols, blockBit}
 use Rattle.rules.specs.Points.{zeroPart, firstPart, secondPart}
-use Rattle.rules.specs.Block.{unscrambled}
 use Rattle.rules.specs.declared.Cell.{Cell}
 use Rattle.laws.specs.Holds.{Holds}
 use Rattle.laws.specs.Filled.{upTo}

@@ -1,11 +1,8 @@
 -- The scrambler's bounds, and that adding its output twice gives the bits back.
 use mathlib.Core.Path.{_≡_, _∙_}
-use mathlib.Core.Bool.{Bool, true, false}
 use Prim.Native.Nat.{ℕ, zero, suc, _+_, _%_, _^_, _<_}
 use native.Mathlib.Omega.{arith}
-use lib.Dec.{eqb}
 use borrow.Author.Tests.{ne-eqb}
-use Rattle.rules.specs.Bits.{pick}
 use Rattle.rules.specs.Slots.{scramblerStep, scramblerState, scrambling}
 use Rattle.rules.specs.Block.{unscrambled}
 
@@ -23,13 +20,6 @@ scrambling-lt seed mask i = omega arith
 
 pub unscrambled-bit : (b s : ℕ) → b < 2 → unscrambled b s ≡ (b + s) % 2
 unscrambled-bit b s h = rw (ne-eqb b 2 (omega arith))
-
-pub unscrambled-lt : (b s : ℕ) → unscrambled b s < 3
-unscrambled-lt b s = either (eqb b 2)
-  where
-    either : (t : Bool) → pick t 2 ((b + s) % 2) < 3
-    either true = omega arith
-    either false = omega arith
 
 -- descrambling gives the sent bit back
 pub unscrambled-twice : (b s : ℕ) → b < 2 → unscrambled ((b + s) % 2) s ≡ b

@@ -1,6 +1,6 @@
 // Scrambling of a slot's bits. A bit is a byte that is 0 or 1; 2 is a doubtful one.
 ghost use mathlib.Core.Path.{_≡_};
-ghost use Prim.Native.Nat.{ℕ, _<_, _≤_, _%_, _^_};
+ghost use Prim.Native.Nat.{_<_, _≤_, _%_, _^_};
 ghost use lib.ListN.{length};
 ghost use Rattle.rules.specs.Bits.{row};
 ghost use Rattle.rules.specs.Slots.{scramblerStep, both, scrambling};

@@ -1,29 +1,28 @@
 -- What coding and judging one packet answer, for every input.
 use mathlib.Core.Path.{_≡_}
-use mathlib.Core.Bool.{Bool}
+use mathlib.Core.Bool.{Bool, not, _&&_}
 use mathlib.Core.List.{List}
 use Prim.Native.Nat.{ℕ}
-use lib.Dec.{T, eqb, ltb}
+use lib.Dec.{eqb, ltb}
 use lib.ListN.{length, replicate}
-use Rattle.rules.specs.Bits.{row, everyBelow}
+use Rattle.rules.specs.Bits.{pick, row, everyBelow}
 use Rattle.rules.specs.Packet.{packetBit}
 use Rattle.rules.specs.Interleaver.{tableD, interleaved, bitInterleaved}
 use Rattle.rules.specs.Points.{doubtful}
+use Rattle.rules.specs.Answers.{codingNumber}
 use Rattle.rules.specs.Slots.{isMode, rate, packetBits, coded}
 use Rattle.rules.specs.Block.{verdict, decidedData, byteOf}
 use Rattle.rules.specs.declared.Coding.{Coding}
-use Rattle.rules.specs.declared.Coding.the-variants.{Coded, WrongMode, WrongLength}
 use Rattle.rules.specs.declared.Judgement.{Judgement}
 use Rattle.laws.specs.Holds.{Holds}
 use Rattle.laws.specs.Filled.{upTo}
 use Rattle.turbo.specs.Streams.{place}
 
--- coding 122 bytes into as many bits as a packet of the mode has; what is too short or too long is refused and nothing is written
-abbrev pub CodingRule : ℕ → List ℕ → List ℕ → List ℕ → Coding → Type 0
-CodingRule m d before after Coded =
-    T (isMode m) × (length d ≡ 122) × (length before ≡ packetBits m) × Holds 0 (packetBits m) (coded m (packetBit (row d))) after
-CodingRule m d before after WrongMode = (¬ T (isMode m)) × (after ≡ before)
-CodingRule m d before after WrongLength = T (isMode m) × (¬ ((length d ≡ 122) × (length before ≡ packetBits m))) × (after ≡ before)
+-- coding 122 bytes into as many bits as a packet of the mode has: 4 another mode, 6 too short or too long, and nothing is written then
+pub record CodingRule (m : ℕ) (d before after : List ℕ) (a : Coding) : Type 0 where
+  pub answer : codingNumber a ≡ pick (not (isMode m)) 4 (pick (not (eqb (length d) 122 && eqb (length before) (packetBits m))) 6 0)
+  pub bits : codingNumber a ≡ 0 → Holds 0 (packetBits m) (coded m (packetBit (row d))) after
+  pub kept : ¬ (codingNumber a ≡ 0) → after ≡ before
 
 -- no bit of n is doubtful; two rows have the same n bits
 abbrev pub plainBits : ℕ → (ℕ → ℕ) → Bool

@@ -1,7 +1,7 @@
 -- `parts::part_of_bits` meets its contract: a pattern above infinity's, its sign taken off, is a NaN's, and there is one `nan`; any other pattern is
 -- read as it stands.
 use mathlib.Core.Path.{_≡_, refl, sym, _∙_, subst}
-use mathlib.Core.Bool.{Bool, true, false, not}
+use mathlib.Core.Bool.{Bool, true, not}
 use borrow.Author.Needs.{needs}
 use borrow.Author.Tests.{lt-ltb, le-ltb}
 use lib.Dec.{T}

@@ -1,5 +1,5 @@
 -- A number before any judgement, or the judgement.
-use mathlib.Core.Path.{_≡_, refl, sym, _∙_}
+use mathlib.Core.Path.{refl, sym, _∙_}
 use lib.ListN.{length}
 use borrow.Author.Needs.{needs}
 use Rattle.block.proofs.Passed.{right}

@@ -10,7 +10,7 @@ use Rattle.rules.specs.Bits.{row}
 use Rattle.rules.specs.Field.{_⊗_}
 use Rattle.rules.specs.Outer.{marked, column, value, root}
 use Rattle.laws.specs.Holds.{Holds}
-use Rattle.outer.specs.Solve.{sum, tally, lostAt, entry, syndrome, kept, solved}
+use Rattle.outer.specs.Solve.{sum, tally, lostAt, syndrome, kept, solved}
 use Rattle.outer.specs.Steps.{Starts, Rows}
 use Rattle.laws.specs.Filled.{upTo, holds-first, holds-next, holds-skip, holds-whole}
 use Rattle.outer.proofs.Ones.{tally-next, place-lt}
