@@ -1,9 +1,10 @@
--- What the answer 0 tells: the profile is in its range, and all lengths are right.
-use mathlib.Core.Path.{_≡_}
+-- What the answer 0 tells, and what gives it: the profile is in its range, and all lengths are right.
+use mathlib.Core.Path.{_≡_, refl}
 use mathlib.Core.Bool.{Bool, true, false, not, _&&_}
 use Prim.Native.Nat.{ℕ, _*_}
 use native.Mathlib.Omega.{arith}
 use lib.Dec.{T, eqb, eqb→eq}
+use lib.Ieee.Fits.{eq→eqb}
 use Rattle.rules.specs.Bits.{pick}
 use Rattle.rules.specs.Profile.{inRange}
 use Rattle.rules.specs.Block.{early}
@@ -26,3 +27,15 @@ right P bytes firsts seconds cells e =
     go true true false d e = absurd (omega arith)
     go true false c d e = absurd (omega arith)
     go false b c d e = absurd (omega arith)
+
+pub passes : (P : Profile) (bytes firsts seconds cells : ℕ) → Right P bytes firsts seconds cells → early P bytes firsts seconds cells ≡ 0
+passes P bytes firsts seconds cells r =
+    go (inRange P) (eqb bytes (122 * P .k)) (eqb firsts cells) (eqb seconds cells)
+    (r .range) (eq→eqb (r .data-long)) (eq→eqb (r .firsts-long)) (eq→eqb (r .seconds-long))
+  where
+    go : (a b c d : Bool) → T a → T b → T c → T d → pick {A = ℕ} (not a) 4 (pick (not b) 6 (pick (not (c && d)) 7 0)) ≡ 0
+    go true true true true p q r s = refl
+    go false b c d p q r s = absurd p
+    go true false c d p q r s = absurd q
+    go true true false d p q r s = absurd r
+    go true true true false p q r s = absurd s

@@ -17,7 +17,7 @@ use Rattle.rules.specs.Block.{checkRight, reservedRight, decidedData}
 use Rattle.rules.specs.Demands.{D1}
 use Rattle.rules.specs.declared.Profile.{Profile}
 use Rattle.rules.specs.declared.Receipt.{Receipt}
-use Rattle.profile.proofs.RoundTrip.{read-number, write-number}
+use Rattle.profile.proofs.RoundTrip.{read-number, write-told}
 
 early-number : (P : Profile) (bytes firsts seconds cells : ℕ) → T (isNumber (early P bytes firsts seconds cells))
 early-number P bytes firsts seconds cells =
@@ -101,5 +101,5 @@ d1 =
       );
       conclude = λ P marks bits before after a. told P marks (length before) 0 0 0 _ before after a;
       read = read-number;
-      write = write-number;
+      write = write-told;
     }

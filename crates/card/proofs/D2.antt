@@ -9,20 +9,23 @@ use lib.Dec.{T, eqb, ltb}
 use borrow.Author.Tests.{eq-eqb, ne-eqb, le-ltb}
 use lib.Ieee.{Float}
 use lib.ListN.{length, getD}
-use Rattle.rules.specs.Bits.{pick, row}
+use Rattle.rules.specs.Bits.{pick}
 use Rattle.rules.specs.Outer.{marked}
 use Rattle.rules.specs.Slots.{symbols}
 use Rattle.rules.specs.Points.{zeroPart, firstPart, secondPart}
 use Rattle.rules.specs.Profile.{inRange}
-use Rattle.rules.specs.Block.{early, Cells, sentCell, SendRule, SendSymbolRule, ReceiveRule}
+use Rattle.rules.specs.Answers.{hasRead}
+use Rattle.rules.specs.Block.{early, Cells, sentCell, SendRule, SendSymbolRule, Accepted, ReceiveRule}
 use Rattle.rules.specs.Demands.{D2, SomePacket}
 use Rattle.rules.specs.declared.Profile.{Profile}
 use Rattle.rules.specs.declared.Receipt.{Receipt}
 use Rattle.laws.specs.Holds.{holds-one}
-use Rattle.profile.proofs.RoundTrip.{read-written, written-read}
+use Rattle.profile.proofs.RoundTrip.{writes, read-written, written-read}
+use Rattle.block.proofs.Passed.{Right, right, passes}
 use Rattle.block.proofs.Ranges.{ranges}
 use Rattle.receiving.proofs.BySymbol.{in-turn-received}
 use Rattle.card.proofs.OneAnswer.{one-answer, one-hearing}
+use Rattle.card.proofs.Reading.{reads, nothing-accepted, own-cells}
 use Rattle.card.proofs.Place.{judges, reason-verdict, accepted}
 
 -- cells leave one pair of lists
@@ -75,34 +78,55 @@ symbol-of-grid P d symbol f s f' s' F S F' S' i one all lt =
       c .seconds-are i (omega arith) ∙ ap secondPart cell ∙ sym (g .seconds-are (4096 * symbol + i) at),
     )
 
+-- a block is sent exactly where profile and lengths are right
+sends : (P : Profile) (d : List ℕ) (f s f' s' : List Float) (n : ℕ) → SendRule P d f s f' s' n
+    → (n ≡ 0)
+    ↔ (T (inRange P) × (length d ≡ 122 * P .k) × (length f ≡ 4096 * symbols (P .mode)) × (length s ≡ 4096 * symbols (P .mode)))
+sends P d f s f' s' n r =
+    let all : ℕ = 4096 * symbols (P .mode) in (
+      (λ z.
+      let w = right P (length d) (length f) (length s) all (sym (r .answer) ∙ z) in
+      (w .range, w .data-long, w .firsts-long, w .seconds-long)),
+      λ q.
+      let w : Right P (length d) (length f) (length s) all
+      = record { range = q .0; data-long = q .1; firsts-long = q .2; seconds-long = q .3 } in
+      r .answer ∙ passes P (length d) (length f) (length s) all w,
+    )
+
 accepts : (P : Profile) (marks : ℕ) (f s : List Float) (before after : List ℕ) (a : Receipt)
     → ReceiveRule P marks f s before after a
-    → T (inRange P)
-    → length before ≡ 122 * P .k
-    → length f ≡ 4096 * symbols (P .mode)
-    → length s ≡ 4096 * symbols (P .mode)
+    → T (hasRead (a .number))
     → (p : ℕ)
     → p < 16
     → marked marks p ≡ 0
-    → (row (a .reasons) p ≡ 0) ↔ SomePacket P f s p
-accepts P marks f s before after a r t b x y p l u =
-    let is = judges f s r t b x y .reasons-are p l ∙ reason-verdict P marks f s p (omega arith) in
-    let iff = accepted P (ranges P t .mode) f s p in
-    ((λ e. iff .0 (sym is ∙ e)), λ q. is ∙ iff .1 q)
+    → Accepted a p ↔ SomePacket P f s p
+accepts P marks f s before after a r t p l u =
+    let w = reads P marks f s before after a r .0 t in
+    let is = judges f s r (w .0) (w .1) (w .2) (w .3) .reasons-are p l ∙ reason-verdict P marks f s p (omega arith) in
+    let iff = accepted P (ranges P (w .0) .mode) f s p in
+    ((λ x. iff .0 (sym is ∙ x .1)), λ q. (t, is ∙ iff .1 q))
 
 pub d2 : D2
 d2 =
     record {
+      cells = λ P d f s f' s' n r. r .cells;
+      sends = sends;
       one-grid = λ P d f s f' s' f'' s'' n m a b.
           one-sending P d 0 (symbols (P .mode)) (a .answer ∙ sym (b .answer)) (a .cells) (b .cells) (a .kept) (b .kept);
+      symbol-of-grid = symbol-of-grid;
+      symbol-cells = λ P d symbol f s f' s' n r. r .cells;
       one-symbol = λ P d symbol f s f' s' f'' s'' n m a b.
           one-sending P d symbol 1 (a .answer ∙ sym (b .answer)) (a .cells) (b .cells) (a .kept) (b .kept);
-      one-receipt = λ P marks f s before after after' a b. one-answer P marks before (length before) (length f) (length s) (4096 * symbols (P .mode)) _ after after' a b;
+      reads = reads;
+      nothing-accepted = nothing-accepted;
+      accepts = accepts;
+      own-cells = λ P marks f s f' s' before after after' a a' x y alike. own-cells P marks f s f' s' before x y alike after after' a a';
+      one-receipt = λ P marks f s before after after' a b.
+          one-answer P marks before (length before) (length f) (length s) (4096 * symbols (P .mode)) _ after after' a b;
+      by-symbol = in-turn-received;
       one-hearing = one-hearing;
       one-conclusion = λ P marks bits before after after' a b. one-answer P marks before (length before) 0 0 0 _ after after' a b;
-      by-symbol = in-turn-received;
-      symbol-of-grid = symbol-of-grid;
-      accepts = accepts;
+      writes = writes;
       read-written = read-written;
       written-read = written-read;
     }

@@ -16,7 +16,7 @@ use Rattle.rules.specs.Outer.{isK, marked, Codeword, Agree}
 use Rattle.rules.specs.Slots.{packetBits, coded}
 use Rattle.rules.specs.Profile.{inRange}
 use Rattle.rules.specs.Block.{packet, decidedData, byteOf, verdict, Delivered, Judged, decided, lostMask}
-use Rattle.rules.specs.Demands.{D3, heardInPlace, sentInPlace, Doubtful, Wrong, Lost}
+use Rattle.rules.specs.Demands.{D3, heardInPlace, sentInPlace, Doubtful, Wrong, Lost, Members}
 use Rattle.rules.specs.declared.Profile.{Profile}
 use Rattle.rules.specs.declared.Receipt.{Receipt}
 use Rattle.outer.proofs.Roots.{k-range, rate as outer-rate, encoded-data, encoded-codeword}
@@ -28,6 +28,7 @@ use Rattle.receiving.proofs.Mask.{mask-lt}
 use Rattle.block.proofs.Ranges.{ranges}
 use Rattle.card.proofs.Mask.{mask-kept}
 use Rattle.card.proofs.Differ.{find}
+use Rattle.card.proofs.Members.{members-one, members-ones}
 use Rattle.card.proofs.Place.{judges, reason-verdict, reason-unmarked, part, reasonIn, part-place, accepted, sent-place}
 
 -- a packet is marked, or has doubtful parts, or at most three bits decided wrongly
@@ -148,11 +149,19 @@ module _ (P : Profile) (d : List ℕ) (marks : ℕ) (f s : List Float) (before a
       sym (accepted-bytes (P .mode) (ranges P t .mode) (part P f s p) (packet (P .k) d p)
       (accepted-whole P t d f s p marks (each p h) (kept-reason p h .0 e)) i l (sent-word (P .k) d bytes i .bytes p h))
 
+  fits : a .lost < 2 ^ 16
+  fits = subst (λ (x : ℕ). x < 2 ^ 16) (sym (j .lost-is)) (mask-lt (row (a .reasons)) 16)
+
+  lost-members : Members (Lost P marks d f s) 16 (ones (a .lost))
+  lost-members = members-ones (Lost P marks d f s) (a .lost) fits lost-set
+
+  -- so many are lost as the mask has ones
+  as-many : (c : ℕ) → Members (Lost P marks d f s) 16 c → c ≡ ones (a .lost)
+  as-many c m = members-one (Lost P marks d f s) m lost-members
+
   comes-back : length d ≡ 122 * P .k
       → (ones (a .lost) ≤ 16 - P .k → (a .number ≡ 0) × (after ≡ d)) × (16 - P .k < ones (a .lost) → (a .number ≡ 9) × (after ≡ before))
-  comes-back long =
-      let fits : a .lost < 2 ^ 16 = subst (λ (x : ℕ). x < 2 ^ 16) (sym (j .lost-is)) (mask-lt (row (a .reasons)) 16) in
-      delivers d (j .delivered) (ranges P t .k) fits long (λ i l. (sent-word (P .k) d bytes i, agrees i l))
+  comes-back long = delivers d (j .delivered) (ranges P t .k) fits long (λ i l. (sent-word (P .k) d bytes i, agrees i l))
 
 pub d3 : D3
 d3 =
@@ -161,5 +170,10 @@ d3 =
       sent-and-received = λ P d marks f s before after a t long bytes room firsts seconds each r.
           let j : Judged P marks (decided P f s) before after a = judges f s r t room firsts seconds in
           let back = comes-back P d marks f s before after a t bytes each j long in
-          (lost-set P d marks f s before after a t bytes each j, back .0, back .1);
+          let many = as-many P d marks f s before after a t bytes each j in (
+            lost-set P d marks f s before after a t bytes each j,
+            lost-members P d marks f s before after a t bytes each j,
+            (λ c m few. back .0 (omega (arith, many c m))),
+            λ c m more. back .1 (omega (arith, many c m)),
+          );
     }

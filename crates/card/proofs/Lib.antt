@@ -7,3 +7,5 @@ pub mod D2
 pub mod Grid
 pub mod D3
 pub mod OneAnswer
+pub mod Reading
+pub mod Members

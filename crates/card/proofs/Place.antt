@@ -1,6 +1,6 @@
 -- One packet in its place: its decided bits are the coded bits of some bytes exactly where its cells decide to these, scrambled.
-use mathlib.Core.Path.{_≡_, refl, sym, ap, ap₂, _∙_}
-use mathlib.Core.Bool.{Bool, true, false, not, _&&_}
+use mathlib.Core.Path.{_≡_, sym, ap, ap₂, _∙_}
+use mathlib.Core.Bool.{Bool}
 use mathlib.Core.List.{List}
 use mathlib.Core.Logic.{_↔_}
 use Prim.Native.Nat.{ℕ, _+_, _*_, _/_, _%_, _<_}
@@ -9,7 +9,6 @@ use native.Mathlib.Decide.{ℕ-discrete}
 use native.Mathlib.Omega.{arith}
 use lib.Dec.{T, eqb}
 use lib.Ieee.{Float}
-use lib.Ieee.Fits.{eq→eqb}
 use lib.ListN.{length}
 use borrow.Author.Tests.{eq-eqb, ne-eqb}
 use Rattle.rules.specs.Bits.{pick}
@@ -26,6 +25,7 @@ use Rattle.turbo.proofs.Modes.{coded-bit}
 use Rattle.turbo.proofs.Accepted.{accepted-coded, coded-accepted}
 use Rattle.slots.proofs.Twice.{scrambling-lt, unscrambled-bit, unscrambled-twice}
 use Rattle.cells.proofs.Deciding.{decide-lt}
+use Rattle.block.proofs.Passed.{passes}
 
 -- with a profile in its range, and rooms of the right lengths, receiving judges
 pub judges : {P : Profile} {marks : ℕ} (f s : List Float) {before after : List ℕ} {a : Receipt}
@@ -37,17 +37,8 @@ pub judges : {P : Profile} {marks : ℕ} (f s : List Float) {before after : List
     → Judged P marks (decided P f s) before after a
 judges {P} f s {before = before} r t b x y =
     r .judged
-    (go (inRange P) (eqb (length before) (122 * P .k)) (eqb (length f) cells) (eqb (length s) cells) t (eq→eqb b) (eq→eqb x) (eq→eqb y))
-  where
-    cells : ℕ
-    cells = 4096 * symbols (P .mode)
-
-    go : (a b c d : Bool) → T a → T b → T c → T d → pick {A = ℕ} (not a) 4 (pick (not b) 6 (pick (not (c && d)) 7 0)) ≡ 0
-    go true true true true p q r s = refl
-    go false b c d p q r s = absurd p
-    go true false c d p q r s = absurd q
-    go true true false d p q r s = absurd r
-    go true true true false p q r s = absurd s
+    (passes P (length before) (length f) (length s) (4096 * symbols (P .mode))
+    (record { range = t; data-long = b; firsts-long = x; seconds-long = y }))
 
 -- ---- scrambled and back
 

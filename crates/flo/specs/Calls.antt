@@ -5,10 +5,8 @@ use Prim.Native.Nat.{ℕ}
 use lib.Ieee.{Float}
 use lib.ListN.{replicate}
 use Rattle.rules.specs.Profile.{reading, writing}
-use Rattle.rules.specs.Answers.{outcomeNumber}
 use Rattle.rules.specs.Outer.{ParityMade}
 use Rattle.rules.specs.Block.{SendRule, SendSymbolRule, ReceiveRule}
-use Rattle.rules.specs.declared.Outcome.{Outcome}
 use Rattle.rules.specs.declared.Profile.{Profile}
 
 -- what a call does after reading: where that was refused, with the number, else with the profile that was read
@@ -37,6 +35,5 @@ pub record FloWriteProfile (masks : List ℕ) (level : Float) (mode k : ℕ) (se
   pub answer : writing (record { masks = masks; level = level; mode = mode; k = k; seeds = seeds })
       ≡ record { number = n; bytes = profile; count = count }
 
--- the number is the paper's for what the outer code answers
 abbrev pub FloParity : ℕ → List ℕ → List ℕ → ℕ → Type 0
-FloParity k before after n = (o : Outcome) × (n ≡ outcomeNumber o) × ParityMade k before after o
+FloParity = ParityMade

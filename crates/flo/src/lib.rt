@@ -1,6 +1,5 @@
 // The C interface, thin: include/flo.h says each call's rule in words.
 ghost use Rattle.flo.specs.Calls.{FloSend, FloSendSymbol, FloReceive, FloReadProfile, FloWriteProfile, FloParity};
-use rules::Outcome;
 use rules::Profile;
 
 #[no_mangle]
@@ -118,12 +117,5 @@ pub extern "C" fn flo_write_profile(
 pub extern "C" fn flo_parity(k: u8, block: &mut [u8]) -> u32
     ensures { λ r. ⌜ FloParity k (now (block .entry)) (now (block .exit)) r ⌝ }
 {
-    let outcome = outer::fill_parity(k, block);
-    match outcome {
-        Outcome::Done => 0,
-        Outcome::BadK => 4,
-        Outcome::BadLength => 6,
-        Outcome::TooManyLost => 9,
-        Outcome::NoCodeword => 10,
-    }
+    outer::number(outer::fill_parity(k, block))
 }

@@ -3,3 +3,4 @@ pub mod Ones
 pub mod Poly
 pub mod Roots
 pub mod Solve
+pub mod Answers

@@ -1,6 +1,7 @@
 // The outer code: parity of a block, and restoring lost packets. A block is 16 packets of 122 bytes, packet after packet.
 ghost use mathlib.Core.Path.{_≡_};
 ghost use Rattle.rules.specs.Outer.{isK, ParityMade, Restored};
+ghost use Rattle.rules.specs.Answers.{outcomeNumber};
 
 mod columns;
 mod division;
@@ -19,9 +20,22 @@ fn is_k(k: u8) -> bool
     }
 }
 
+// What an outcome's number is on paper.
+pub fn number(o: Outcome) -> u32
+    ensures { λ r. ⌜ r ≡ outcomeNumber o ⌝ }
+{
+    match o {
+        Outcome::Done => 0,
+        Outcome::BadK => 4,
+        Outcome::BadLength => 6,
+        Outcome::TooManyLost => 9,
+        Outcome::NoCodeword => 10,
+    }
+}
+
 // Fills the last 16 - k packets with the parity of the k before them.
 pub fn fill_parity(k: u8, block: &mut [u8]) -> Outcome
-    ensures { λ r. ⌜ ParityMade k (now (block .entry)) (now (block .exit)) r ⌝ }
+    ensures { λ r. ⌜ ParityMade k (now (block .entry)) (now (block .exit)) (outcomeNumber r) ⌝ }
 {
     if !is_k(k) {
         return Outcome::BadK;
@@ -39,7 +53,7 @@ pub fn fill_parity(k: u8, block: &mut [u8]) -> Outcome
 
 // Works out the lost packets from those that aren't; bit p of lost is packet p's. Nothing is written before all columns are known to be codewords.
 pub fn restore(k: u8, lost: u16, block: &mut [u8]) -> Outcome
-    ensures { λ r. ⌜ Restored k lost (now (block .entry)) (now (block .exit)) r ⌝ }
+    ensures { λ r. ⌜ Restored k lost (now (block .entry)) (now (block .exit)) (outcomeNumber r) ⌝ }
 {
     if !is_k(k) {
         return Outcome::BadK;

@@ -14,7 +14,6 @@ ghost use Rattle.receiving.specs.Steps.{Weighed, WeighedTo};
 use block::packet_bits;
 use block::scrambled;
 use rules::Judgement;
-use rules::Outcome;
 use rules::Profile;
 use rules::Receipt;
 
@@ -100,23 +99,19 @@ fn weigh_all(mode: u8, marks: u16, bits: [u8; 48000]) -> Verdicts
     }
 }
 
-// Restores the lost packets and writes the data, or answers why not. The last two outcomes can't come: k and the block's length are right.
+// Restores the lost packets and writes the data, or answers why not.
 fn deliver(k: u8, lost: u16, block: [u8; 1952], data: &mut [u8]) -> u32
     requires { ⌜ T (isK k) × (length (now «data») ≡ 122 * k) ⌝ }
     ensures { λ r. ⌜ Delivered k lost (λ p j. column block j p) (now («data» .entry)) (now («data» .exit)) r ⌝ }
 {
     let mut whole = block;
-    match outer::restore(k, lost, &mut whole) {
-        Outcome::Done => {
-            let n = data.len();
-            copy(&whole[..n], data);
-            0
-        }
-        Outcome::TooManyLost => 9,
-        Outcome::NoCodeword => 10,
-        Outcome::BadK => 10,
-        Outcome::BadLength => 10,
+    let number = outer::number(outer::restore(k, lost, &mut whole));
+    if number != 0 {
+        return number;
     }
+    let n = data.len();
+    copy(&whole[..n], data);
+    0
 }
 
 // Judges a block's bits, still scrambled, and delivers the data.

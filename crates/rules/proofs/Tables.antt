@@ -1,7 +1,7 @@
 -- Each table of the rules, held against something that a wrong digit breaks.
 use mathlib.Core.Path.{_≡_, refl}
 use mathlib.Core.Bool.{Bool, true, _&&_, Bool·beq}
-use mathlib.Core.List.{[], _∷_}
+use mathlib.Core.List.{List, [], _∷_}
 use Prim.Native.Nat.{ℕ, zero, suc, _+_, _-_, _*_, _/_}
 use lib.Dec.{T, eqb, leb, ltb}
 use Rattle.rules.specs.Bits.{pick, row, bitOf, byteBit}
@@ -10,6 +10,7 @@ use Rattle.rules.specs.Field.{_⊗_, double, times, alpha}
 use Rattle.rules.specs.Outer.{generator, value}
 use Rattle.rules.specs.Interleaver.{tableD}
 use Rattle.rules.specs.Turbo.{Rate, half, third, state, ending, codedBit, codedLength}
+use Rattle.rules.specs.Answers.{isNumber, isReason, hasRead}
 
 -- the generator with its first coefficient, that of x^r
 unfoldable pub monic : ℕ → ℕ → ℕ
@@ -58,3 +59,18 @@ pub third-sent : sentFour third 0b0100 0b1110 ∷ sentFour third 0b0010 0b0111 �
     ≡ 0xE6F6FC0 ∷ 0x1CF7078 ∷ 0x2001CF ∷ 0x1CEE77 ∷ []
 unfolding codedBit state ending
 third-sent = refl
+
+-- which of the n numbers from k on pass a test
+abbrev pub passing : ℕ → ℕ → (ℕ → Bool) → List ℕ
+passing zero k f = []
+passing (suc n) k f = let rest = passing n (suc k) f in pick (f k) (k ∷ rest) rest
+
+-- The table of what the desk says back has these numbers and no other below a byte's 256, receiving reads the cells at these, and gives these reasons
+pub numbers-listed : passing 256 0 isNumber ≡ 0 ∷ 1 ∷ 2 ∷ 3 ∷ 4 ∷ 5 ∷ 6 ∷ 7 ∷ 8 ∷ 9 ∷ 10 ∷ []
+numbers-listed = refl
+
+pub read-listed : passing 256 0 hasRead ≡ 0 ∷ 9 ∷ 10 ∷ []
+read-listed = refl
+
+pub reasons-listed : passing 256 0 isReason ≡ 0 ∷ 11 ∷ 12 ∷ 13 ∷ 14 ∷ 15 ∷ []
+reasons-listed = refl

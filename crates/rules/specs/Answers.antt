@@ -11,6 +11,10 @@ use Rattle.rules.specs.declared.Coding.the-variants.{Coded, WrongMode, W
 abbrev pub isNumber : ℕ → Bool
 isNumber n = leb n 10
 
+-- the numbers at which receiving has read the cells: mask and reasons are given, and something may count as accepted
+abbrev pub hasRead : ℕ → Bool
+hasRead n = eqb n 0 || eqb n 9 || eqb n 10
+
 -- 0 accepted, 11 marked, 12 doubtful, 13 check word, 14 reserved bits, 15 coded bits differ
 abbrev pub isReason : ℕ → Bool
 isReason n = eqb n 0 || leb 11 n && leb n 15

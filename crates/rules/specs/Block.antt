@@ -4,7 +4,7 @@ use mathlib.Core.Bool.{Bool, not, _&&_}
 use mathlib.Core.List.{List}
 use Prim.Native.Nat.{ℕ, zero, suc, _+_, _-_, _*_, _/_, _%_, _^_, _<_, _≤_}
 use lib.Count.{ones}
-use lib.Dec.{eqb, ltb}
+use lib.Dec.{T, eqb, ltb}
 use lib.Ieee.{Float}
 use lib.ListN.{length, getD, replicate, take, drop}
 use Rattle.rules.specs.Bits.{pick, row, bitOf, everyBelow}
@@ -16,6 +16,7 @@ use Rattle.rules.specs.Slots.{rate, slotBits, packetBits, slots, symbols
 use Rattle.rules.specs.Points.{zeroPart, pointOf, firstPart, secondPart, doubtful, decide}
 use Rattle.rules.specs.Cells.{carried, pointCell}
 use Rattle.rules.specs.Profile.{inRange}
+use Rattle.rules.specs.Answers.{hasRead}
 use Rattle.rules.specs.declared.Profile.{Profile}
 use Rattle.rules.specs.declared.Carried.{Carried}
 use Rattle.rules.specs.declared.Carried.the-variants.{Nothing, PointOf}
@@ -168,6 +169,10 @@ silence n = record { number = n; lost = 0; reasons = replicate 16 0 }
 pub record Answered (P : Profile) (marks n : ℕ) (v : ℕ → ℕ) (before after : List ℕ) (a : Receipt) : Type 0 where
   pub refused : ¬ (n ≡ 0) → (a ≡ silence n) × (after ≡ before)
   pub judged : n ≡ 0 → Judged P marks v before after a
+
+-- packet p counts as accepted: the cells were read, and its reason is 0
+abbrev pub Accepted : Receipt → ℕ → Type 0
+Accepted a p = T (hasRead (a .number)) × (row (a .reasons) p ≡ 0)
 
 -- 4, 6, 7, then the judgement
 abbrev pub ReceiveRule : Profile → ℕ → List Float → List Float → List ℕ → List ℕ → Receipt → Type 0

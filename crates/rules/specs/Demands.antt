@@ -1,21 +1,22 @@
 -- The founder's three sentences as propositions about the calls' rules. That every call comes back, with no `requires`, and answers by its rule is
 -- each function's own contract; card/proofs proves these.
 use mathlib.Core.Path.{_≡_}
-use mathlib.Core.List.{List}
+use mathlib.Core.List.{List, _++_}
 use mathlib.Core.Logic.{_⊎_, _↔_}
-use Prim.Native.Nat.{ℕ, _+_, _-_, _*_, _/_, _%_, _<_, _≤_}
+use Prim.Native.Nat.{ℕ, suc, _+_, _-_, _*_, _/_, _%_, _<_, _≤_}
 use lib.Count.{ones}
 use lib.Dec.{T}
 use lib.Ieee.{Float}
-use lib.ListN.{length, getD}
+use lib.ListN.{length, getD, take, replicate}
 use Rattle.rules.specs.Bits.{row, differ}
 use Rattle.rules.specs.Packet.{packetBit}
 use Rattle.rules.specs.Outer.{marked}
-use Rattle.rules.specs.Slots.{slotBits, packetBits, symbols, coded}
+use Rattle.rules.specs.Slots.{slotBits, packetBits, slots, symbols, coded}
 use Rattle.rules.specs.Points.{zeroPart, doubtful}
-use Rattle.rules.specs.Profile.{inRange, Shape, reading, writing, written, blank}
-use Rattle.rules.specs.Answers.{isNumber, isReason}
-use Rattle.rules.specs.Block.{scrambler, sentBit, heard, Cells, SendRule, SendSymbolRule, ReceiveRule, HearRule, ConcludeRule, InTurn}
+use Rattle.rules.specs.Profile.{inRange, Shape, reading, writing, blank, largest}
+use Rattle.rules.specs.Answers.{isNumber, isReason, hasRead}
+use Rattle.rules.specs.Block.{scrambler, sentBit, heard, Cells, SendRule, SendSymbolRule}
+use Rattle.rules.specs.Block.{Accepted, ReceiveRule, HearRule, ConcludeRule, InTurn}
 use Rattle.rules.specs.declared.Profile.{Profile}
 use Rattle.rules.specs.declared.Receipt.{Receipt}
 
@@ -38,7 +39,9 @@ pub record D1 : Type 0 where
       → ConcludeRule P marks bits before after a
       → T (isNumber (a .number)) × ((p : ℕ) → p < 16 → T (isReason (row (a .reasons) p))) × (¬ (a .number ≡ 0) → after ≡ before)
   pub read : (s : List ℕ) → T (isNumber (reading s .number)) × (¬ (reading s .number ≡ 0) → reading s .profile ≡ blank)
-  pub write : (P : Profile) → T (isNumber (writing P .number))
+  pub write : (P : Profile)
+      → T (isNumber (writing P .number))
+      × (¬ (writing P .number ≡ 0) → (writing P .bytes ≡ replicate largest 0) × (writing P .count ≡ 0))
 
 -- ---- 2. Cell for cell, and accepted exactly when some packet has the bits that the cells decide to
 
@@ -60,26 +63,61 @@ SomePacket P f s p =
     × ((i : ℕ) → i < packetBits (P .mode) → heardInPlace P f s p i ≡ bitInPlace P e p i)
 
 pub record D2 : Type 0 where
-  -- the rules of sending, receiving and hearing leave one answer only
+  -- sending a block fills the grid with exactly the cells that the rules give, and does so wherever profile and lengths are right
+  pub cells : (P : Profile) (d : List ℕ) (f s f' s' : List Float) (n : ℕ)
+      → SendRule P d f s f' s' n
+      → n ≡ 0
+      → Cells P d 0 (symbols (P .mode)) f' s'
+  pub sends : (P : Profile) (d : List ℕ) (f s f' s' : List Float) (n : ℕ)
+      → SendRule P d f s f' s' n
+      → (n ≡ 0)
+      ↔ (T (inRange P) × (length d ≡ 122 * P .k) × (length f ≡ 4096 * symbols (P .mode)) × (length s ≡ 4096 * symbols (P .mode)))
   pub one-grid : (P : Profile) (d : List ℕ) (f s f' s' f'' s'' : List Float) (n m : ℕ)
       → SendRule P d f s f' s' n
       → SendRule P d f s f'' s'' m
       → (n ≡ m) × (f' ≡ f'') × (s' ≡ s'')
+  -- one symbol sent alone is that part of the whole grid
+  pub symbol-of-grid : (P : Profile) (d : List ℕ) (symbol : ℕ) (f s f' s' F S F' S' : List Float) (i : ℕ)
+      → SendSymbolRule P d symbol f s f' s' 0
+      → SendRule P d F S F' S' 0
+      → i < 4096
+      → (getD f' i zeroPart ≡ getD F' (4096 * symbol + i) zeroPart) × (getD s' i zeroPart ≡ getD S' (4096 * symbol + i) zeroPart)
+  pub symbol-cells : (P : Profile) (d : List ℕ) (symbol : ℕ) (f s f' s' : List Float) (n : ℕ)
+      → SendSymbolRule P d symbol f s f' s' n
+      → n ≡ 0
+      → Cells P d symbol 1 f' s'
   pub one-symbol : (P : Profile) (d : List ℕ) (symbol : ℕ) (f s f' s' f'' s'' : List Float) (n m : ℕ)
       → SendSymbolRule P d symbol f s f' s' n
       → SendSymbolRule P d symbol f s f'' s'' m
       → (n ≡ m) × (f' ≡ f'') × (s' ≡ s'')
+  -- receiving reads the cells exactly where profile and lengths are right; at every other number mask and reasons are zero and nothing counts as accepted
+  pub reads : (P : Profile) (marks : ℕ) (f s : List Float) (before after : List ℕ) (a : Receipt)
+      → ReceiveRule P marks f s before after a
+      → T (hasRead (a .number))
+      ↔ (T (inRange P) × (length before ≡ 122 * P .k) × (length f ≡ 4096 * symbols (P .mode)) × (length s ≡ 4096 * symbols (P .mode)))
+  pub nothing-accepted : (P : Profile) (marks : ℕ) (f s : List Float) (before after : List ℕ) (a : Receipt)
+      → ReceiveRule P marks f s before after a
+      → ¬ T (hasRead (a .number))
+      → (a .lost ≡ 0) × (a .reasons ≡ replicate 16 0) × ((p : ℕ) → ¬ Accepted a p)
+  -- if it reads the cells, it accepts an unmarked packet exactly when there is such a packet
+  pub accepts : (P : Profile) (marks : ℕ) (f s : List Float) (before after : List ℕ) (a : Receipt)
+      → ReceiveRule P marks f s before after a
+      → T (hasRead (a .number))
+      → (p : ℕ)
+      → p < 16
+      → marked marks p ≡ 0
+      → Accepted a p ↔ SomePacket P f s p
+  -- it looks only at the block's own cells: two grids whose own cells decide alike get the same receipt and the same data, whatever else they hold
+  pub own-cells : (P : Profile) (marks : ℕ) (f s f' s' : List Float) (before after after' : List ℕ) (a a' : Receipt)
+      → length f ≡ length f'
+      → length s ≡ length s'
+      → ((t i : ℕ) → t < slots (P .mode) → i < slotBits (P .mode) → heard f s t i ≡ heard f' s' t i)
+      → ReceiveRule P marks f s before after a
+      → ReceiveRule P marks f' s' before after' a'
+      → (a ≡ a') × (after ≡ after')
   pub one-receipt : (P : Profile) (marks : ℕ) (f s : List Float) (before after after' : List ℕ) (a a' : Receipt)
       → ReceiveRule P marks f s before after a
       → ReceiveRule P marks f s before after' a'
-      → (a ≡ a') × (after ≡ after')
-  pub one-hearing : (P : Profile) (symbol : ℕ) (f s : List Float) (before after after' : List ℕ) (n m : ℕ)
-      → HearRule P symbol f s before after n
-      → HearRule P symbol f s before after' m
-      → (n ≡ m) × (after ≡ after')
-  pub one-conclusion : (P : Profile) (marks : ℕ) (bits before after after' : List ℕ) (a a' : Receipt)
-      → ConcludeRule P marks bits before after a
-      → ConcludeRule P marks bits before after' a'
       → (a ≡ a') × (after ≡ after')
   -- to hear every symbol of a grid in turn and then to conclude is to receive the grid
   pub by-symbol : (P : Profile) (marks : ℕ) (f s : List Float) (bits before after : List ℕ) (a : Receipt)
@@ -88,26 +126,25 @@ pub record D2 : Type 0 where
       → InTurn P f s (symbols (P .mode)) bits
       → ConcludeRule P marks bits before after a
       → ReceiveRule P marks f s before after a
-  -- one symbol sent alone is that part of the whole grid
-  pub symbol-of-grid : (P : Profile) (d : List ℕ) (symbol : ℕ) (f s f' s' F S F' S' : List Float) (i : ℕ)
-      → SendSymbolRule P d symbol f s f' s' 0
-      → SendRule P d F S F' S' 0
-      → i < 4096
-      → (getD f' i zeroPart ≡ getD F' (4096 * symbol + i) zeroPart) × (getD s' i zeroPart ≡ getD S' (4096 * symbol + i) zeroPart)
-  -- receiving, if it reads the cells, accepts an unmarked packet exactly when there is such a packet
-  pub accepts : (P : Profile) (marks : ℕ) (f s : List Float) (before after : List ℕ) (a : Receipt)
-      → ReceiveRule P marks f s before after a
-      → T (inRange P)
-      → length before ≡ 122 * P .k
-      → length f ≡ 4096 * symbols (P .mode)
-      → length s ≡ 4096 * symbols (P .mode)
-      → (p : ℕ)
-      → p < 16
-      → marked marks p ≡ 0
-      → (row (a .reasons) p ≡ 0) ↔ SomePacket P f s p
-  -- a profile is read and written by the same rules: reading what was written gives the value back, and what reads well is what is written
-  pub read-written : (P : Profile) → T (inRange P) → Shape P → reading (written P) ≡ record { number = 0; profile = P }
-  pub written-read : (s : List ℕ) → ((i : ℕ) → row s i < 256) → reading s .number ≡ 0 → T (inRange (reading s .profile)) × (written (reading s .profile) ≡ s)
+  pub one-hearing : (P : Profile) (symbol : ℕ) (f s : List Float) (before after after' : List ℕ) (n m : ℕ)
+      → HearRule P symbol f s before after n
+      → HearRule P symbol f s before after' m
+      → (n ≡ m) × (after ≡ after')
+  pub one-conclusion : (P : Profile) (marks : ℕ) (bits before after after' : List ℕ) (a a' : Receipt)
+      → ConcludeRule P marks bits before after a
+      → ConcludeRule P marks bits before after' a'
+      → (a ≡ a') × (after ≡ after')
+  -- a profile is read and written by the same rules: what is in range is written, reading the written bytes gives the value back, and what reads well
+  -- is what is written
+  pub writes : (P : Profile) → (writing P .number ≡ 0) ↔ T (inRange P)
+  pub read-written : (P : Profile)
+      → Shape P
+      → writing P .number ≡ 0
+      → reading (take (writing P .count) (writing P .bytes)) ≡ record { number = 0; profile = P }
+  pub written-read : (s : List ℕ)
+      → ((i : ℕ) → row s i < 256)
+      → reading s .number ≡ 0
+      → writing (reading s .profile) ≡ record { number = 0; bytes = s ++ replicate (largest - length s) 0; count = length s }
 
 -- ---- 3. The lost set exactly; at most r lost come back, more are refused
 
@@ -126,6 +163,12 @@ Wrong P d f s p = (i : ℕ) × (i < packetBits (P .mode)) × (¬ (heardInPlace P
 
 abbrev pub Lost : Profile → ℕ → List ℕ → List Float → List Float → ℕ → Type 0
 Lost P marks d f s p = (marked marks p ≡ 1) ⊎ (Doubtful P f s p ⊎ Wrong P d f s p)
+
+-- how many of the first n packets are in a set
+pub data Members (S : ℕ → Type 0) : ℕ → ℕ → Type 0 where
+  none : Members S 0 0
+  member : (n c : ℕ) → S n → Members S n c → Members S (suc n) (suc c)
+  other : (n c : ℕ) → ¬ S n → Members S n c → Members S (suc n) c
 
 pub record D3 : Type 0 where
   -- a grid that holds the sent cells is heard as sent
@@ -149,6 +192,9 @@ pub record D3 : Type 0 where
       → (marked marks p ≡ 1)
       ⊎ (Doubtful P f s p ⊎ (differ (packetBits (P .mode)) (heardInPlace P f s p) (sentInPlace P d p) ≤ 3)))
       → ReceiveRule P marks f s before after a
+      -- the lost mask names the lost set, and its ones are as many as that has members
       → ((p : ℕ) → p < 16 → (marked (a .lost) p ≡ 1) ↔ Lost P marks d f s p)
-      × (ones (a .lost) ≤ 16 - P .k → (a .number ≡ 0) × (after ≡ d))
-      × (16 - P .k < ones (a .lost) → (a .number ≡ 9) × (after ≡ before))
+      × Members (Lost P marks d f s) 16 (ones (a .lost))
+      -- at most r members, and more
+      × ((c : ℕ) → Members (Lost P marks d f s) 16 c → c ≤ 16 - P .k → (a .number ≡ 0) × (after ≡ d))
+      × ((c : ℕ) → Members (Lost P marks d f s) 16 c → 16 - P .k < c → (a .number ≡ 9) × (after ≡ before))

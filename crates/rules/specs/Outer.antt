@@ -1,6 +1,6 @@
 -- Document 01, "Outer code": the generators of 002, parity, codewords. A column is byte j of all 16 packets, packet 0 the coefficient of x^15.
 use mathlib.Core.Path.{_≡_}
-use mathlib.Core.Bool.{Bool, _||_}
+use mathlib.Core.Bool.{Bool, not, _||_}
 use mathlib.Core.List.{List, [], _∷_}
 use Prim.Native.Nat.{ℕ, zero, suc, _+_, _-_, _*_, _/_, _%_, _^_, _<_, _≤_}
 use lib.Count.{ones}
@@ -8,8 +8,6 @@ use lib.Dec.{T, eqb, ltb}
 use lib.ListN.{length}
 use Rattle.rules.specs.Bits.{pick, row}
 use Rattle.rules.specs.Field.{_⊕_, _⊗_, alpha}
-use Rattle.rules.specs.declared.Outcome.{Outcome}
-use Rattle.rules.specs.declared.Outcome.the-variants.{Done, BadK, BadLength, TooManyLost, NoCodeword}
 
 -- K is 8, 12 or 14 and r = 16 - K
 abbrev pub isK : ℕ → Bool
@@ -64,26 +62,31 @@ marked mask p = mask / 2 ^ p % 2
 abbrev pub Agree : ℕ → (ℕ → ℕ) → (ℕ → ℕ) → Type 0
 Agree lost c d = (p : ℕ) → p < 16 → marked lost p ≡ 0 → c p ≡ d p
 
--- What making the parity of a block answers, and what the block then holds: at Done every column is the codeword of its first K bytes, and a
--- refusal leaves the block as it was.
-abbrev pub ParityMade : ℕ → List ℕ → List ℕ → Outcome → Type 0
-ParityMade k before after Done =
-    T (isK k) × (length before ≡ 1952) × (length after ≡ 1952)
-    × ((j : ℕ) → j < 122 → (p : ℕ) → p < 16 → column after j p ≡ encoded (16 - k) (column before j) p)
-ParityMade k before after BadK = (¬ T (isK k)) × (after ≡ before)
-ParityMade k before after BadLength = T (isK k) × (¬ (length before ≡ 1952)) × (after ≡ before)
-ParityMade k before after TooManyLost = ⊥
-ParityMade k before after NoCodeword = ⊥
+-- What making the parity of a block answers, by its paper number: 4 K isn't 8, 12 or 14, 6 the block isn't 1952 bytes, else 0; and what the block then
+-- holds: at 0 every column is the codeword of its first K bytes, and a refusal leaves the block as it was.
+pub record ParityMade (k : ℕ) (before after : List ℕ) (number : ℕ) : Type 0 where
+  pub answer : number ≡ pick (not (isK k)) 4 (pick (not (eqb (length before) 1952)) 6 0)
+  pub long : number ≡ 0 → length after ≡ 1952
+  pub columns : number ≡ 0 → (j : ℕ) → j < 122 → (p : ℕ) → p < 16 → column after j p ≡ encoded (16 - k) (column before j) p
+  pub kept : ¬ (number ≡ 0) → after ≡ before
 
--- What restoring a block answers, and what the block then holds: at Done every column is a codeword that agrees with all packets that aren't lost
--- (proofs say that there is only one), and a refusal leaves the block as it was.
-abbrev pub Restored : ℕ → ℕ → List ℕ → List ℕ → Outcome → Type 0
-Restored k lost before after Done =
-    T (isK k) × (length before ≡ 1952) × (ones lost ≤ 16 - k) × (length after ≡ 1952)
-    × ((j : ℕ) → j < 122 → Codeword (16 - k) (column after j) × Agree lost (column after j) (column before j))
-Restored k lost before after BadK = (¬ T (isK k)) × (after ≡ before)
-Restored k lost before after BadLength = T (isK k) × (¬ (length before ≡ 1952)) × (after ≡ before)
-Restored k lost before after TooManyLost = T (isK k) × (length before ≡ 1952) × (16 - k < ones lost) × (after ≡ before)
-Restored k lost before after NoCodeword =
-    T (isK k) × (length before ≡ 1952) × (ones lost ≤ 16 - k)
-    × ((j : ℕ) × (j < 122) × ((c : ℕ → ℕ) → Codeword (16 - k) c → Agree lost c (column before j) → ⊥)) × (after ≡ before)
+-- What restoring a block answers, by its paper number, and what the block then holds: at 0 every column is a codeword that agrees with all packets
+-- that aren't lost (proofs say that there is only one), and a refusal leaves the block as it was.
+pub data Restored (k lost : ℕ) (before after : List ℕ) : ℕ → Type 0 where
+  restored : T (isK k)
+      → length before ≡ 1952
+      → ones lost ≤ 16 - k
+      → length after ≡ 1952
+      → ((j : ℕ) → j < 122 → Codeword (16 - k) (column after j) × Agree lost (column after j) (column before j))
+      → Restored k lost before after 0
+  badK : ¬ T (isK k) → after ≡ before → Restored k lost before after 4
+  badLength : T (isK k) → ¬ (length before ≡ 1952) → after ≡ before → Restored k lost before after 6
+  tooManyLost : T (isK k) → length before ≡ 1952 → 16 - k < ones lost → after ≡ before → Restored k lost before after 9
+  noCodeword : T (isK k)
+      → length before ≡ 1952
+      → ones lost ≤ 16 - k
+      → (j : ℕ)
+      → j < 122
+      → ((c : ℕ → ℕ) → Codeword (16 - k) c → Agree lost c (column before j) → ⊥)
+      → after ≡ before
+      → Restored k lost before after 10

@@ -7,26 +7,21 @@ use lib.Dec.{T}
 use Rattle.rules.specs.Bits.{row}
 use Rattle.rules.specs.Outer.{isK, ParityMade}
 use Rattle.rules.specs.Block.{packet}
-use Rattle.rules.specs.declared.Outcome.{Outcome}
-use Rattle.rules.specs.declared.Outcome.the-variants.{Done, BadK, BadLength, TooManyLost, NoCodeword}
 use Rattle.laws.specs.Holds.{Holds}
 use Rattle.laws.specs.Filled.{upTo, upTo-below}
 use Rattle.outer.proofs.Roots.{k-range, encoded-same}
+use Rattle.outer.proofs.Answers.{parity-answered}
 
 -- where K is right and the data is in its place, a block of 16 packets is not refused
-pub block-packet : (k : ℕ) (d before after : List ℕ) (r : Outcome)
+pub block-packet : (k : ℕ) (d before after : List ℕ) (n : ℕ)
     → T (isK k)
     → Holds 0 1952 (upTo (122 * k) (row d) (λ i. 0)) before
-    → ParityMade k before after r
+    → ParityMade k before after n
     → (p j : ℕ)
     → p < 16
     → j < 122
     → row after (122 * p + j) ≡ packet k d p j
-block-packet k d before after Done t h made p j p<16 j<122 =
-    made .3 j j<122 p p<16
+block-packet k d before after n t h made p j p<16 j<122 =
+    made .columns (parity-answered t (h .long) made) j j<122 p p<16
     ∙ encoded-same (16 - k)
     (λ q lt. h .each (122 * q + j) (omega (arith, k-range k t)) ∙ upTo-below (row d) (λ i. 0) (122 * k) (122 * q + j) (omega (arith, k-range k t))) p
-block-packet k d before after BadK t h made p j p<16 j<122 = absurd (made .0 t)
-block-packet k d before after BadLength t h made p j p<16 j<122 = absurd (made .1 (h .long))
-block-packet k d before after TooManyLost t h made p j p<16 j<122 = absurd made
-block-packet k d before after NoCodeword t h made p j p<16 j<122 = absurd made

@@ -14,6 +14,7 @@ use Rattle.outer.specs.Solve.{kept}
 use Rattle.outer.specs.Steps.{Put}
 use Rattle.laws.specs.Filled.{upTo, upTo-below, upTo-from}
 use Rattle.outer.proofs.Roots.{k-range, passed, refused, encoded-same}
+use Rattle.outer.proofs.Answers.{parity-bad-k, parity-bad-length, parity-done}
 use borrow.Author.Needs.{needs}
 use native.Mathlib.Omega.{arith}
 use Rattle.outer.proofs.fill_parity.Statement.{statement}
@@ -68,10 +69,10 @@ is-k-requires : tie.Need-is-k-requires Inv-loop μ-loop
 is-k-requires c κs = search needs
 
 returns : tie.Need-returns Inv-loop μ-loop
-returns c = (refused (c .before .is-k .ensures) (c .if1 .taken), refl)
+returns c = parity-bad-k (refused (c .before .is-k .ensures) (c .if1 .taken))
 
 returns-2 : tie.Need-returns-2 Inv-loop μ-loop
-returns-2 c = (right (c .before), c .if2 .taken, refl)
+returns-2 c = parity-bad-length (right (c .before)) (c .if2 .taken)
 
 sub-r : tie.Need-sub-r Inv-loop μ-loop
 sub-r c = omega (arith, range (c .before))
@@ -119,12 +120,9 @@ returns-3 c =
     let l = c .before .loop in
     let e = c .before .before in
     let a = e .before .before .before .before .args in
-    let b = a .block .now in (
-      right (e .before),
-      e .if2 .left,
-      l .inv .1,
-      λ j m p n. l .inv .2 j m p n ∙ upTo-below (λ i. encoded (16 - a .k) (column b i) p) (λ i. column b i p) (l .j) j (omega arith),
-    )
+    let b = a .block .now in
+    parity-done (right (e .before)) (e .if2 .left) (l .inv .1)
+    (λ j m p n. l .inv .2 j m p n ∙ upTo-below (λ i. encoded (16 - a .k) (column b i) p) (λ i. column b i p) (l .j) j (omega arith))
 
 pub fill-parity-spec : {M : Type 1} → statement M
 fill-parity-spec =

@@ -6,7 +6,7 @@ use lib.Count.{ones}
 use lib.Dec.{T}
 use lib.ListN.{length}
 use borrow.Author.Tests.{not-true, not-false}
-use Rattle.rules.specs.Outer.{column, isK, Codeword, Agree}
+use Rattle.rules.specs.Outer.{column, isK, Codeword, Agree, Restored}
 use Rattle.outer.specs.Solve.{solved}
 use Rattle.outer.specs.Steps.{Solved, Works}
 use Rattle.outer.proofs.Roots.{k-range, passed, refused, rate, codeword-same}
@@ -37,10 +37,10 @@ is-k-requires : tie.Need-is-k-requires
 is-k-requires c κs = search needs
 
 returns : tie.Need-returns
-returns c = (refused (c .before .is-k .ensures) (c .if1 .taken), refl)
+returns c = Restored.badK (refused (c .before .is-k .ensures) (c .if1 .taken)) refl
 
 returns-2 : tie.Need-returns-2
-returns-2 c = (right (c .before), c .if2 .taken, refl)
+returns-2 c = Restored.badLength (right (c .before)) (c .if2 .taken) refl
 
 sub-r : tie.Need-sub-r
 sub-r c = omega (arith, range (c .before))
@@ -55,7 +55,7 @@ cast-if3 : tie.Need-cast-if3
 cast-if3 c = omega arith
 
 returns-3 : tie.Need-returns-3
-returns-3 c = (right (c .before .before), c .before .if2 .left, c .if3 .taken, refl)
+returns-3 c = Restored.tooManyLost (right (c .before .before)) (c .before .if2 .left) (c .if3 .taken) refl
 
 rows-requires : tie.Need-rows-requires
 rows-requires c κs = few c
@@ -76,13 +76,9 @@ returns-4 c =
     let e = c .before .before .before .before .before .before in
     let s = c .before .before .all-solved in
     let a = e .before .before .before .before .before .args in
-    let w = subst (Works (16 - a .k) (a .lost) (a .block .now) (s .last .1 .1 .1 .1 .0)) (not-true (s .result) (c .if4 .taken)) (s .ensures) in (
-      right (e .before .before),
-      e .before .if2 .left,
-      e .if3 .left,
-      (w .0, w .1, none-agrees (omega arith) (e .if3 .left) (rate (a .k) (right (e .before .before))) (w .2)),
-      refl,
-    )
+    let w = subst (Works (16 - a .k) (a .lost) (a .block .now) (s .last .1 .1 .1 .1 .0)) (not-true (s .result) (c .if4 .taken)) (s .ensures) in
+    Restored.noCodeword (right (e .before .before)) (e .before .if2 .left) (e .if3 .left) (w .0) (w .1)
+    (none-agrees (omega arith) (e .if3 .left) (rate (a .k) (right (e .before .before))) (w .2)) refl
 
 long : (c : tie.Else4) → length (c .before .before .all-solved .last .1 .1 .1 .1 .0) ≡ 1952
 long c = c .before .before .all-solved .kept .1 .1 .1 .1 .0
@@ -103,13 +99,9 @@ returns-5 c =
     let s = d .before .before .all-solved in
     let p = c .before .before .copy in
     let a = e .before .before .before .before .before .args in
-    let w = subst (Works (16 - a .k) (a .lost) (a .block .now) (s .last .1 .1 .1 .1 .0)) (not-false (s .result) (d .if4 .left)) (s .ensures) in (
-      right (e .before .before),
-      e .before .if2 .left,
-      e .if3 .left,
-      ap length (p .ensures) ∙ long d,
-      restored (16 - a .k) (a .lost) (a .block .now) _ (p .last .1 .0) (few e .0) (p .ensures) w,
-    )
+    let w = subst (Works (16 - a .k) (a .lost) (a .block .now) (s .last .1 .1 .1 .1 .0)) (not-false (s .result) (d .if4 .left)) (s .ensures) in
+    Restored.restored (right (e .before .before)) (e .before .if2 .left) (e .if3 .left) (ap length (p .ensures) ∙ long d)
+    (restored (16 - a .k) (a .lost) (a .block .now) _ (p .last .1 .0) (few e .0) (p .ensures) w)
 
 pub restore-spec : {M : Type 1} → statement M
 restore-spec =

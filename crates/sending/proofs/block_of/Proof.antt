@@ -49,7 +49,7 @@ returns c =
     let l = c .before .before .before .before in
     let s = l .before .before in
     let all : l .loop .i ≡ 122 * s .args .k = omega (arith, s .pre .1) in
-    block-packet (s .args .k) (s .args .«data» .now) (l .loop .block) _ (c .before .fill-parity .result) (s .pre .0)
+    block-packet (s .args .k) (s .args .«data» .now) (l .loop .block) _ _ (s .pre .0)
     (subst (λ (n : ℕ). Holds 0 1952 (upTo n (row (s .args .«data» .now)) (λ i. 0)) (l .loop .block)) all (l .loop .inv .2)) (c .before .fill-parity .ensures)
 
 pub block-of-spec : {M : Type 1} → statement M

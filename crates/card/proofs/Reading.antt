@@ -1,0 +1,103 @@
+-- When receiving reads the cells, what it leaves where it doesn't, and that it looks at the block's own cells only.
+use mathlib.Core.Path.{_≡_, refl, sym, ap, ap₂, subst, _∙_}
+use mathlib.Core.Bool.{Bool, true, false, not, _&&_}
+use mathlib.Core.List.{List}
+use mathlib.Core.Logic.{_↔_}
+use Prim.Native.Nat.{ℕ, _*_, _/_, _%_, _<_}
+use native.Mathlib.Decide.{ℕ-discrete}
+use native.Mathlib.Omega.{arith}
+use lib.Dec.{T, eqb}
+use lib.Ieee.{Float}
+use lib.ListN.{length, replicate}
+use Rattle.rules.specs.Bits.{pick}
+use Rattle.rules.specs.Slots.{slotBits, slots, symbols}
+use Rattle.rules.specs.Profile.{inRange}
+use Rattle.rules.specs.Answers.{hasRead}
+use Rattle.rules.specs.Block.{early, heard, decided, scrambler, unscrambled, silence, Accepted, Delivered, ReceiveRule}
+use Rattle.rules.specs.declared.Profile.{Profile}
+use Rattle.rules.specs.declared.Receipt.{Receipt}
+use Rattle.block.proofs.Passed.{Right, right, passes}
+use Rattle.block.proofs.Ranges.{ranges}
+use Rattle.receiving.proofs.Judgement.{judged-same}
+use Rattle.card.proofs.OneAnswer.{one-answer}
+
+delivered-read : {k lost : ℕ} {kept : ℕ → ℕ → ℕ} {before after : List ℕ} {n : ℕ} → Delivered k lost kept before after n → T (hasRead n)
+delivered-read (Delivered.whole few w agree long is) = tt
+delivered-read (Delivered.tooMany many e) = tt
+delivered-read (Delivered.noCodeword few j l none e) = tt
+
+-- of the numbers that come first only 0 is one at which the cells are read
+early-read : (P : Profile) (bytes firsts seconds cells : ℕ) → T (hasRead (early P bytes firsts seconds cells)) → early P bytes firsts seconds cells ≡ 0
+early-read P bytes firsts seconds cells =
+    go (not (inRange P)) (not (eqb bytes (122 * P .k))) (not (eqb firsts cells && eqb seconds cells))
+  where
+    go : (a b c : Bool) → T (hasRead (pick a 4 (pick b 6 (pick c 7 0)))) → pick {A = ℕ} a 4 (pick b 6 (pick c 7 0)) ≡ 0
+    go true b c t = absurd t
+    go false true c t = absurd t
+    go false false true t = absurd t
+    go false false false t = refl
+
+module _ (P : Profile) (marks : ℕ) (f s : List Float) (before after : List ℕ) (a : Receipt) (r : ReceiveRule P marks f s before after a) where
+  first : ℕ
+  first = early P (length before) (length f) (length s) (4096 * symbols (P .mode))
+
+  read-first : T (hasRead (a .number)) → first ≡ 0
+  unfolding first
+  read-first t = go (ℕ-discrete first 0)
+    where
+      go : Dec (first ≡ 0) → first ≡ 0
+      go (yes z) = z
+      go (no ne) =
+          early-read P (length before) (length f) (length s) (4096 * symbols (P .mode))
+          (subst (λ (b : Receipt). T (hasRead (b .number))) (r .refused ne .0) t)
+
+  pub reads : T (hasRead (a .number))
+      ↔ (T (inRange P) × (length before ≡ 122 * P .k) × (length f ≡ 4096 * symbols (P .mode)) × (length s ≡ 4096 * symbols (P .mode)))
+  unfolding first
+  reads = (
+    (λ t.
+    let w = right P (length before) (length f) (length s) (4096 * symbols (P .mode)) (read-first t) in
+    (w .range, w .data-long, w .firsts-long, w .seconds-long)),
+    λ q.
+    let w : Right P (length before) (length f) (length s) (4096 * symbols (P .mode))
+    = record { range = q .0; data-long = q .1; firsts-long = q .2; seconds-long = q .3 } in
+    delivered-read (r .judged (passes P (length before) (length f) (length s) (4096 * symbols (P .mode)) w) .delivered),
+  )
+
+  pub nothing-accepted : ¬ T (hasRead (a .number)) → (a .lost ≡ 0) × (a .reasons ≡ replicate 16 0) × ((p : ℕ) → ¬ Accepted a p)
+  unfolding first
+  nothing-accepted ne =
+      let e = r .refused (λ z. ne (delivered-read (r .judged z .delivered))) .0 in
+      (ap (λ (b : Receipt). b .lost) e, ap (λ (b : Receipt). b .reasons) e, λ p x. ne (x .0))
+
+module _ (P : Profile) (marks : ℕ) (f s f' s' : List Float) (before : List ℕ) (firsts : length f ≡ length f') (seconds : length s ≡ length s')
+    (alike : (t i : ℕ) → t < slots (P .mode) → i < slotBits (P .mode) → heard f s t i ≡ heard f' s' t i) where
+  -- what is answered to the one grid is an answer to the other
+  received-as : (after : List ℕ) (a : Receipt) → ReceiveRule P marks f s before after a → ReceiveRule P marks f' s' before after a
+  unfolding decided
+  received-as after a r =
+      record {
+        refused = λ ne.
+            let q = r .refused (λ z. ne (sym same ∙ z)) in
+            (q .0 ∙ ap silence same, q .1);
+        judged = λ z.
+            let w = right P (length before) (length f') (length s') (4096 * symbols (P .mode)) z in
+            judged-same P marks (ranges P (w .range) .mode) (decided P f s) (decided P f' s') bit (r .judged (same ∙ z));
+      }
+    where
+      same : early P (length before) (length f) (length s) (4096 * symbols (P .mode))
+          ≡ early P (length before) (length f') (length s') (4096 * symbols (P .mode))
+      same = ap₂ (λ (x y : ℕ). early P (length before) x y (4096 * symbols (P .mode))) firsts seconds
+
+      bit : (g : ℕ) → g < slotBits (P .mode) * slots (P .mode) → decided P f s g ≡ decided P f' s' g
+      bit g lt =
+          ap (λ (b : ℕ). unscrambled b (scrambler P (g / slotBits (P .mode)) (g % slotBits (P .mode))))
+          (alike (g / slotBits (P .mode)) (g % slotBits (P .mode)) (omega arith) (omega arith))
+
+  pub own-cells : (after after' : List ℕ) (a a' : Receipt)
+      → ReceiveRule P marks f s before after a
+      → ReceiveRule P marks f' s' before after' a'
+      → (a ≡ a') × (after ≡ after')
+  own-cells after after' a a' x y =
+      one-answer P marks before (length before) (length f') (length s') (4096 * symbols (P .mode)) (decided P f' s') after after' a a'
+      (received-as after a x) y
