@@ -363,10 +363,16 @@ def profile_table():
         for at, number in [(45, n) for n in (0, 1, 2, 255)] + [(49, n) for n in (0, 7, 8, 12, 13, 14, 15, 16)]:
             yield good[:at] + bytes([number]) + good[at + 1:]
 
+def seeds_number(seeds, mode):
+    """What writing answers to 48 seeds, where all else is right: those that the mode does not use are to be zero."""
+    used = 48 if mode == 0 else 32
+    return 0 if all(0 < s < 2 ** 20 for s in seeds[:used]) and not any(seeds[used:]) else 4
+
 def profiles():
     for data in profile_table():
         number = read_number(data)
-        yield (number, 0, len(data), "same") if number == 0 else (number, "")
+        seeds = [int.from_bytes(data[at:at + 4], "big") for at in range(53, 241, 4)]
+        yield (number, 0, len(data), "same", seeds_number(seeds + [1], data[45])) if number == 0 else (number, "")
 
 def profiles_stdin():
     for data in profile_table():

@@ -9,3 +9,4 @@ pub mod D3
 pub mod OneAnswer
 pub mod Reading
 pub mod Members
+pub mod Edges

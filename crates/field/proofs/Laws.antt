@@ -312,6 +312,11 @@ pub inverse-law : (a : ℕ) → a < 256 → ¬ (a ≡ 0) → a ⊗ inverse a ≡
 unfolding inverse
 inverse-law a h ne = let l = log a h ne in rw (l .1) (alpha-inverse (l .0))
 
+-- the inverse of zero is answered as zero
+pub inverse-zero : inverse 0 ≡ 0
+unfolding inverse
+inverse-zero = power-suc 0 253 ∙ ⊗-zero-l (power 0 253)
+
 pub no-zero-divisors : (a b : ℕ) → a < 256 → b < 256 → a ⊗ b ≡ 0 → ¬ (a ≡ 0) → b ≡ 0
 no-zero-divisors a b ha hb e ne =
     sym (⊗-one-l b hb) ∙ ap (λ (x : ℕ). x ⊗ b) (sym (inverse-law a ha ne) ∙ ⊗-comm a (inverse a)) ∙ ⊗-assoc (inverse a) a b

@@ -1,28 +1,26 @@
--- The C calls keep the first two sentences: reading the profile does, and then the call's own rule.
-use mathlib.Core.Path.{_≡_, refl, sym, _∙_, ap, subst}
+-- The C calls keep the first sentence and have one answer each: reading the profile does, and then the call's own rule.
+use mathlib.Core.Path.{_≡_, sym, _∙_, ap, subst}
+use mathlib.Core.Bool.{Bool, true, false, not}
 use mathlib.Core.List.{List}
-use Prim.Native.Nat.{ℕ, _+_, _*_, _/_, _%_, _<_}
+use Prim.Native.Nat.{ℕ, _<_}
 use native.Mathlib.Decide.{ℕ-discrete}
-use native.Mathlib.Omega.{arith}
-use lib.Dec.{T}
+use lib.Dec.{T, eqb}
 use lib.ListN.{length, getD-replicate}
-use lib.Seq.{ext-getD}
-use Rattle.rules.specs.Bits.{row}
-use Rattle.rules.specs.Answers.{isNumber, isReason, outcomeNumber}
-use Rattle.rules.specs.Outer.{ParityMade}
+use Rattle.rules.specs.Bits.{pick, row}
+use Rattle.rules.specs.Answers.{isNumber, isReason}
+use Rattle.rules.specs.Outer.{isK}
 use Rattle.rules.specs.Profile.{reading}
-use Rattle.rules.specs.declared.Outcome.{Outcome}
-use Rattle.rules.specs.declared.Outcome.the-variants.{Done, BadK, BadLength, TooManyLost, NoCodeword}
 use Rattle.rules.specs.declared.Profile.{Profile}
 use Rattle.rules.specs.declared.Writing.{Writing}
 use Rattle.rules.specs.declared.Receipt.{Receipt}
+use Rattle.outer.proofs.Answers.{one-parity}
 use Rattle.card.proofs.D1.{d1}
 use Rattle.card.proofs.D2.{d2}
 use Rattle.flo.specs.Calls.{AfterReading}
 use Rattle.flo.specs.Demands.{CallsTold, CallsOne}
 
 -- by cases: reading is refused, or the call's rule holds of the profile that was read
-by-reading : (profile : List ℕ) {Refused : ℕ → Type 0} {Rule : Profile → Type 0} (Goal : Type 0)
+pub by-reading : (profile : List ℕ) {Refused : ℕ → Type 0} {Rule : Profile → Type 0} (Goal : Type 0)
     → AfterReading profile Refused Rule
     → (Refused (reading profile .number) → Goal)
     → (Rule (reading profile .profile) → Goal)
@@ -50,13 +48,10 @@ both-reading profile Goal x y unread read = go (ℕ-discrete (reading profile .n
 read-told : (profile : List ℕ) (n : ℕ) → n ≡ reading profile .number → T (isNumber n)
 read-told profile n e = subst (λ (m : ℕ). T (isNumber m)) (sym e) (d1 .read profile .0)
 
-parity-told : (o : Outcome) (k : ℕ) (before after : List ℕ) → ParityMade k before after o
-    → T (isNumber (outcomeNumber o)) × (¬ (outcomeNumber o ≡ 0) → after ≡ before)
-parity-told Done k before after h = (tt, λ ne. absurd (ne refl))
-parity-told BadK k before after h = (tt, λ _. h .1)
-parity-told BadLength k before after h = (tt, λ _. h .2)
-parity-told TooManyLost k before after h = absurd h
-parity-told NoCodeword k before after h = absurd h
+parity-number : (b c : Bool) → T (isNumber (pick b 4 (pick c 6 0)))
+parity-number true c = tt
+parity-number false true = tt
+parity-number false false = tt
 
 pub calls-told : CallsTold
 calls-told =
@@ -74,42 +69,9 @@ calls-told =
           (d1 .receive _ marks f s before after (record { number = n; lost = lost; reasons = reasons }));
       read-profile = λ profile masks level mode k seeds n r. read-told profile n (r .number);
       write-profile = λ masks level mode k seeds profile count n r.
-          subst (λ (w : Writing). T (isNumber (w .number))) (r .answer) (d1 .write _);
-      parity = λ k before after n r.
-          let h = parity-told (r .0) k before after (r .2) in
-          subst (λ (m : ℕ). T (isNumber m) × (¬ (m ≡ 0) → after ≡ before)) (sym (r .1)) h;
+          subst (λ (w : Writing). T (isNumber (w .number))) (r .answer) (d1 .write _ .0);
+      parity = λ k before after n r. (rw (r .answer) (parity-number (not (isK k)) (not (eqb (length before) 1952))), r .kept);
     }
-
--- the parity of a block is one
-parity-one : (o o' : Outcome) (k : ℕ) (before after after' : List ℕ) → ParityMade k before after o → ParityMade k before after' o'
-    → (outcomeNumber o ≡ outcomeNumber o') × (after ≡ after')
-parity-one Done Done k before after after' x y =
-    (refl, ext-getD 0 after after' (x .2 ∙ sym (y .2)) at)
-  where
-    at : (i : ℕ) → i < length after → row after i ≡ row after' i
-    at i l =
-        let p : ℕ = i / 122 in
-        let j : ℕ = i % 122 in
-        let place : 122 * p + j ≡ i = omega arith in
-        let below : p < 16 = omega (arith, x .2) in
-        let small : j < 122 = omega arith in
-        ap (row after) (sym place) ∙ x .3 j small p below ∙ sym (y .3 j small p below) ∙ ap (row after') place
-parity-one Done BadK k before after after' x y = absurd (y .0 (x .0))
-parity-one Done BadLength k before after after' x y = absurd (y .1 (x .1))
-parity-one BadK Done k before after after' x y = absurd (x .0 (y .0))
-parity-one BadK BadK k before after after' x y = (refl, x .1 ∙ sym (y .1))
-parity-one BadK BadLength k before after after' x y = absurd (x .0 (y .0))
-parity-one BadLength Done k before after after' x y = absurd (x .1 (y .1))
-parity-one BadLength BadK k before after after' x y = absurd (y .0 (x .0))
-parity-one BadLength BadLength k before after after' x y = (refl, x .2 ∙ sym (y .2))
-parity-one TooManyLost o' k before after after' x y = absurd x
-parity-one NoCodeword o' k before after after' x y = absurd x
-parity-one Done TooManyLost k before after after' x y = absurd y
-parity-one Done NoCodeword k before after after' x y = absurd y
-parity-one BadK TooManyLost k before after after' x y = absurd y
-parity-one BadK NoCodeword k before after after' x y = absurd y
-parity-one BadLength TooManyLost k before after after' x y = absurd y
-parity-one BadLength NoCodeword k before after after' x y = absurd y
 
 pub calls-one : CallsOne
 calls-one =
@@ -140,7 +102,5 @@ calls-one =
       write-profile = λ masks level mode k seeds profile profile' count count' n m x y.
           let e = sym (x .answer) ∙ y .answer in
           (ap (λ (w : Writing). w .number) e, ap (λ (w : Writing). w .bytes) e, ap (λ (w : Writing). w .count) e);
-      parity = λ k before after after' n m x y.
-          let e = parity-one (x .0) (y .0) k before after after' (x .2) (y .2) in
-          (x .1 ∙ e .0 ∙ sym (y .1), e .1);
+      parity = λ k before after after' n m. one-parity k;
     }

@@ -1,13 +1,24 @@
--- The founder's first two sentences for the C calls: the number is in the table, a refusal leaves the lent memory holding what it held, and no call
--- can answer in two ways. flo/proofs/Demands.antt proves them.
+-- The founder's three sentences for the C calls, over the profile's bytes. Lent memory is the cell lists of a send, the data room of a receive and the
+-- block of flo_parity; what comes back through result pointers is an answer. flo/proofs/Demands.antt and Right.antt prove these.
 use mathlib.Core.Path.{_≡_}
-use mathlib.Core.List.{List}
-use Prim.Native.Nat.{ℕ, _<_}
+use mathlib.Core.List.{List, _++_}
+use mathlib.Core.Logic.{_⊎_, _↔_}
+use Prim.Native.Nat.{ℕ, _-_, _*_, _<_, _≤_}
+use lib.Count.{ones}
 use lib.Dec.{T}
 use lib.Ieee.{Float}
-use Rattle.rules.specs.Bits.{row}
-use Rattle.rules.specs.Answers.{isNumber, isReason}
+use lib.ListN.{length, take, replicate}
+use Rattle.rules.specs.Bits.{row, differ}
+use Rattle.rules.specs.Outer.{marked}
+use Rattle.rules.specs.Slots.{packetBits, symbols}
+use Rattle.rules.specs.Profile.{Shape, reading, largest}
+use Rattle.rules.specs.Answers.{isNumber, isReason, hasRead}
+use Rattle.rules.specs.Block.{Cells}
+use Rattle.rules.specs.Demands.{heardInPlace, sentInPlace, SomePacket, Doubtful, Lost, Members}
+use Rattle.rules.specs.declared.Profile.{Profile}
 use Rattle.flo.specs.Calls.{FloSend, FloSendSymbol, FloReceive, FloReadProfile, FloWriteProfile, FloParity}
+
+-- ---- 1. The number is in the table, and a refusal leaves the lent memory holding what it held
 
 pub record CallsTold : Type 0 where
   pub send : (profile d : List ℕ) (f s f' s' : List Float) (n : ℕ)
@@ -26,6 +37,8 @@ pub record CallsTold : Type 0 where
       → FloWriteProfile masks level mode k seeds profile count n
       → T (isNumber n)
   pub parity : (k : ℕ) (before after : List ℕ) (n : ℕ) → FloParity k before after n → T (isNumber n) × (¬ (n ≡ 0) → after ≡ before)
+
+-- ---- 2. No call can answer in two ways
 
 pub record CallsOne : Type 0 where
   pub send : (profile d : List ℕ) (f s f' s' f'' s'' : List Float) (n m : ℕ)
@@ -52,3 +65,72 @@ pub record CallsOne : Type 0 where
       → FloParity k before after n
       → FloParity k before after' m
       → (n ≡ m) × (after ≡ after')
+
+-- the profile that some bytes say
+abbrev pub said : List ℕ → Profile
+said profile = reading profile .profile
+
+-- reading passes, and all lengths are right
+abbrev pub Fitting : List ℕ → ℕ → ℕ → ℕ → Type 0
+Fitting profile bytes firsts seconds =
+    (reading profile .number ≡ 0) × (bytes ≡ 122 * said profile .k)
+    × (firsts ≡ 4096 * symbols (said profile .mode)) × (seconds ≡ 4096 * symbols (said profile .mode))
+
+-- The cells are those of the rules; a packet is accepted exactly when some packet has the bits; a profile is read and written by the same rules
+pub record CallsRight : Type 0 where
+  pub cells : (profile d : List ℕ) (f s f' s' : List Float) (n : ℕ)
+      → FloSend profile d f s f' s' n
+      → n ≡ 0
+      → Cells (said profile) d 0 (symbols (said profile .mode)) f' s'
+  pub sends : (profile d : List ℕ) (f s f' s' : List Float) (n : ℕ)
+      → ((i : ℕ) → row profile i < 256)
+      → FloSend profile d f s f' s' n
+      → (n ≡ 0) ↔ Fitting profile (length d) (length f) (length s)
+  pub symbol-cells : (profile d : List ℕ) (symbol : ℕ) (f s f' s' : List Float) (n : ℕ)
+      → FloSendSymbol profile d symbol f s f' s' n
+      → n ≡ 0
+      → Cells (said profile) d symbol 1 f' s'
+  pub reads : (profile : List ℕ) (marks : ℕ) (f s : List Float) (before after : List ℕ) (lost : ℕ) (reasons : List ℕ) (n : ℕ)
+      → ((i : ℕ) → row profile i < 256)
+      → FloReceive profile marks f s before after lost reasons n
+      → T (hasRead n) ↔ Fitting profile (length before) (length f) (length s)
+  pub nothing-accepted : (profile : List ℕ) (marks : ℕ) (f s : List Float) (before after : List ℕ) (lost : ℕ) (reasons : List ℕ) (n : ℕ)
+      → FloReceive profile marks f s before after lost reasons n
+      → ¬ T (hasRead n)
+      → (lost ≡ 0) × (reasons ≡ replicate 16 0)
+  pub accepts : (profile : List ℕ) (marks : ℕ) (f s : List Float) (before after : List ℕ) (lost : ℕ) (reasons : List ℕ) (n : ℕ)
+      → FloReceive profile marks f s before after lost reasons n
+      → T (hasRead n)
+      → (p : ℕ)
+      → p < 16
+      → marked marks p ≡ 0
+      → (row reasons p ≡ 0) ↔ SomePacket (said profile) f s p
+  pub read-written : (masks : List ℕ) (level : Float) (mode k : ℕ) (seeds profile : List ℕ) (count n : ℕ)
+      → Shape (record { masks = masks; level = level; mode = mode; k = k; seeds = seeds })
+      → FloWriteProfile masks level mode k seeds profile count n
+      → n ≡ 0
+      → FloReadProfile (take count profile) masks level mode k seeds 0
+  pub written-read : (profile masks : List ℕ) (level : Float) (mode k : ℕ) (seeds : List ℕ) (n : ℕ)
+      → ((i : ℕ) → row profile i < 256)
+      → FloReadProfile profile masks level mode k seeds n
+      → n ≡ 0
+      → FloWriteProfile masks level mode k seeds (profile ++ replicate (largest - length profile) 0) (length profile) 0
+
+-- ---- 3. The lost set exactly; at most r lost come back, more are refused
+
+pub record CallsBring : Type 0 where
+  pub sent-and-received : (profile d : List ℕ) (marks : ℕ) (f s : List Float) (before after : List ℕ) (lost : ℕ) (reasons : List ℕ) (n : ℕ)
+      → ((i : ℕ) → row profile i < 256)
+      → Fitting profile (length before) (length f) (length s)
+      → length d ≡ 122 * said profile .k
+      → ((i : ℕ) → row d i < 256)
+      → ((p : ℕ)
+      → p < 16
+      → (marked marks p ≡ 1)
+      ⊎ (Doubtful (said profile) f s p
+      ⊎ (differ (packetBits (said profile .mode)) (heardInPlace (said profile) f s p) (sentInPlace (said profile) d p) ≤ 3)))
+      → FloReceive profile marks f s before after lost reasons n
+      → ((p : ℕ) → p < 16 → (marked lost p ≡ 1) ↔ Lost (said profile) marks d f s p)
+      × Members (Lost (said profile) marks d f s) 16 (ones lost)
+      × ((c : ℕ) → Members (Lost (said profile) marks d f s) 16 c → c ≤ 16 - said profile .k → (n ≡ 0) × (after ≡ d))
+      × ((c : ℕ) → Members (Lost (said profile) marks d f s) 16 c → 16 - said profile .k < c → (n ≡ 9) × (after ≡ before))

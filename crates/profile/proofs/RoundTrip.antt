@@ -9,14 +9,15 @@ use native.Mathlib.Omega.{arith}
 use lib.Dec.{T}
 use lib.ListN.{length, take, replicate}
 use lib.Seq.{take-append-seam}
-use Rattle.rules.specs.Answers.{isNumber}
+use Rattle.rules.specs.Answers.{isNumber, hasRead}
 use Rattle.rules.specs.Bits.{pick, row}
 use Rattle.rules.specs.Slots.{slots}
 use Rattle.rules.specs.Profile.{Shape, fields, blank, inRange, reading, written, writing, largest}
 use Rattle.rules.specs.declared.Profile.{Profile}
+use Rattle.rules.specs.declared.Reading.{Reading}
 use Rattle.rules.specs.declared.Writing.{Writing}
 use Rattle.profile.proofs.Words.{bytes-of, bytes-at}
-use Rattle.profile.proofs.Table.{good-all, all-good, table-read, table-written, table-number, table-length, table-bytes}
+use Rattle.profile.proofs.Table.{good-all, all-good, table-read, table-written, table-answer, table-length, table-bytes}
 use Rattle.profile.proofs.Entries.{laws, ordered, whole}
 
 -- what is written of a profile in range
@@ -67,7 +68,15 @@ written-read s b z =
     writing-good (reading s .profile) (all-good fields (reading s .profile) (w .0)) ∙ ap good (w .1)
 
 pub read-number : (s : List ℕ) → T (isNumber (reading s .number)) × (¬ (reading s .number ≡ 0) → reading s .profile ≡ blank)
-read-number s = table-number fields blank s
+read-number s =
+    table-answer (λ (r : Reading). T (isNumber (r .number)) × (¬ (r .number ≡ 0) → r .profile ≡ blank))
+    (λ p. (tt, λ ne. absurd (ne refl))) (tt, λ ne. refl) (tt, λ ne. refl) (tt, λ ne. refl) (tt, λ ne. refl) (tt, λ ne. refl) fields blank s
+
+-- a refusal of reading is no number at which cells are read
+pub unread : (s : List ℕ) → T (hasRead (reading s .number)) → reading s .number ≡ 0
+unread s =
+    table-answer (λ (r : Reading). T (hasRead (r .number)) → r .number ≡ 0)
+    (λ p t. refl) (λ t. absurd t) (λ t. absurd t) (λ t. absurd t) (λ t. absurd t) (λ t. absurd t) fields blank s
 
 pub written-length : (P : Profile) → T (inRange P) → Shape P → length (written P) ≡ 53 + 4 * slots (P .mode)
 unfolding written

@@ -11,7 +11,6 @@ use lib.Ieee.Fits.{and-i, and-l, and-r}
 use lib.ListN.{length, take, drop, length-append, take-append-drop}
 use lib.Seq.{length-take-le, take-at, drop-at}
 use borrow.Author.Tests.{eq-eqb, eqb-true, ne-eqb, le-ltb, ltb-false, not-false}
-use Rattle.rules.specs.Answers.{isNumber}
 use Rattle.rules.specs.Bits.{pick, row}
 use Rattle.rules.specs.Profile.{Field, allGood, blank, fieldBytes, refused, walk}
 use Rattle.rules.specs.declared.Profile.{Profile}
@@ -179,31 +178,30 @@ table-written fs p s L O b z = written-of (read-walk fs p s (walk fs p s) refl z
 
 -- ---- numbers, lengths, bytes
 
--- a number of the table, and a refusal holds the blank profile
-abbrev pub Numbered : Reading → Type 0
-Numbered r = T (isNumber (r .number)) × (¬ (r .number ≡ 0) → r .profile ≡ blank)
+-- what holds of every profile that is read and of the five refusals holds of what is answered
+module _ (Q : Reading → Type 0) (done : (p : Profile) → Q (record { number = 0; profile = p }))
+    (q₁ : Q (refused 1)) (q₂ : Q (refused 2)) (q₃ : Q (refused 3)) (q₄ : Q (refused 4)) (q₅ : Q (refused 5)) where
+  or-refused : (b : Bool) (n : ℕ) (r : Reading) → Q (refused n) → Q r → Q (pick b (refused n) r)
+  or-refused true n r t q = t
+  or-refused false n r t q = q
 
-or-refused : (b : Bool) (n : ℕ) {r : Reading} → T (isNumber n) → Numbered r → Numbered (pick b (refused n) r)
-or-refused true n t q = (t, λ ne. refl)
-or-refused false n t q = q
+  ended : (b c : Bool) (p : Profile) → Q (pick b (record { number = 0; profile = p }) (refused (pick c 1 2)))
+  ended true c p = done p
+  ended false true p = q₁
+  ended false false p = q₂
 
-ended : (b c : Bool) (p : Profile) → Numbered (pick b (record { number = 0; profile = p }) (refused (pick c 1 2)))
-ended true c p = (tt, λ ne. absurd (ne refl))
-ended false true p = (tt, λ ne. refl)
-ended false false p = (tt, λ ne. refl)
-
-pub table-number : (fs : List Field) (p : Profile) (s : List ℕ) → Numbered (walk fs p s)
-unfolding walk
-table-number [] p s = ended (eqb (length s) 0) (ltb (length s) 3) p
-table-number (f ∷ fs) p s =
-    let q = f .with p (take (f .due p) (drop 3 s)) in
-    or-refused (eqb (length s) 0) 5 tt
-    (or-refused (ltb (length s) 3) 1 tt
-    (or-refused (not (eqb (row s 0) (f .tag))) 2 tt
-    (or-refused (not (eqb (row s 1 * 256 + row s 2) (f .due p))) 3 tt
-    (or-refused (ltb (length s) (3 + f .due p)) 1 tt
-    (or-refused (not (f .good q)) 4 tt
-    (table-number fs q (drop (3 + f .due p) s)))))))
+  pub table-answer : (fs : List Field) (p : Profile) (s : List ℕ) → Q (walk fs p s)
+  unfolding walk
+  table-answer [] p s = ended (eqb (length s) 0) (ltb (length s) 3) p
+  table-answer (f ∷ fs) p s =
+      let q = f .with p (take (f .due p) (drop 3 s)) in
+      or-refused (eqb (length s) 0) 5 _ q₅
+      (or-refused (ltb (length s) 3) 1 _ q₁
+      (or-refused (not (eqb (row s 0) (f .tag))) 2 _ q₂
+      (or-refused (not (eqb (row s 1 * 256 + row s 2) (f .due p))) 3 _ q₃
+      (or-refused (ltb (length s) (3 + f .due p)) 1 _ q₁
+      (or-refused (not (f .good q)) 4 _ q₄
+      (table-answer fs q (drop (3 + f .due p) s)))))))
 
 -- how many bytes are due
 abbrev pub size : List Field → Profile → ℕ

@@ -9,13 +9,7 @@ use rules::Outcome;
 
 // By document 01's number.
 fn outcome(o: Outcome) {
-    match o {
-        Outcome::Done => print::decimal(0),
-        Outcome::BadK => print::decimal(4),
-        Outcome::BadLength => print::decimal(6),
-        Outcome::TooManyLost => print::decimal(9),
-        Outcome::NoCodeword => print::decimal(10),
-    }
+    print::decimal(outer::number(o) as usize);
 }
 
 // Packet p, if it is one of parity.

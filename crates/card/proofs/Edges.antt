@@ -1,0 +1,105 @@
+-- The demands at the ends of their bounds, by numbers written out here: the last packet, byte, bit and cell, three wrong bits, as many lost as there is
+-- parity, and one more. A demand with a narrower bound would not give these.
+use mathlib.Core.Path.{_≡_, refl, sym, ap, ap₂, _∙_}
+use mathlib.Core.List.{List}
+use mathlib.Core.Logic.{_⊎_, _↔_}
+use Prim.Native.Nat.{ℕ, suc, _+_, _-_, _*_, _/_, _%_, _<_, _≤_}
+use native.Mathlib.Omega.{arith}
+use lib.Dec.{T, lit<}
+use lib.Ieee.{Float}
+use lib.ListN.{length, getD}
+use Rattle.rules.specs.Bits.{row, differ}
+use Rattle.rules.specs.Outer.{marked}
+use Rattle.rules.specs.Slots.{packetBits, symbols}
+use Rattle.rules.specs.Points.{zeroPart, firstPart, secondPart}
+use Rattle.rules.specs.Profile.{inRange}
+use Rattle.rules.specs.Answers.{isReason, hasRead}
+use Rattle.rules.specs.Block.{Cells, sentCell, SendRule, SendSymbolRule, Accepted, ReceiveRule, ConcludeRule}
+use Rattle.rules.specs.Demands.{bitInPlace, heardInPlace, sentInPlace, Doubtful, Lost, Members}
+use Rattle.rules.specs.declared.Profile.{Profile}
+use Rattle.rules.specs.declared.Receipt.{Receipt}
+use Rattle.card.proofs.D1.{d1}
+use Rattle.card.proofs.D2.{d2}
+use Rattle.card.proofs.D3.{d3}
+
+-- the reason of the last packet is one of the table's
+pub last-reason : (P : Profile) (marks : ℕ) (f s : List Float) (before after : List ℕ) (a : Receipt)
+    → ReceiveRule P marks f s before after a
+    → T (isReason (row (a .reasons) 15))
+last-reason P marks f s before after a r = d1 .receive P marks f s before after a r .1 15 (lit< tt)
+
+pub last-concluded : (P : Profile) (marks : ℕ) (bits before after : List ℕ) (a : Receipt)
+    → ConcludeRule P marks bits before after a
+    → T (isReason (row (a .reasons) 15))
+last-concluded P marks bits before after a r = d1 .conclude P marks bits before after a r .1 15 (lit< tt)
+
+-- cell 4095 of the last symbol y is the rules'
+pub last-cell : (P : Profile) (d : List ℕ) (f s f' s' : List Float) (y : ℕ)
+    → SendRule P d f s f' s' 0
+    → symbols (P .mode) ≡ suc y
+    → (getD f' (4096 * y + 4095) zeroPart ≡ firstPart (sentCell P d y 4095))
+    × (getD s' (4096 * y + 4095) zeroPart ≡ secondPart (sentCell P d y 4095))
+last-cell P d f s f' s' y r e =
+    let c = d2 .cells P d f s f' s' 0 r refl in
+    let at : 4096 * y + 4095 < 4096 * symbols (P .mode) = omega arith in
+    let symbol : 0 + (4096 * y + 4095) / 4096 ≡ y = omega arith in
+    let place : (4096 * y + 4095) % 4096 ≡ 4095 = omega arith in
+    let cell : sentCell P d (0 + (4096 * y + 4095) / 4096) ((4096 * y + 4095) % 4096) ≡ sentCell P d y 4095 = ap₂ (sentCell P d) symbol place in
+    (c .firsts-are (4096 * y + 4095) at ∙ ap firstPart cell, c .seconds-are (4096 * y + 4095) at ∙ ap secondPart cell)
+
+pub last-alone : (P : Profile) (d : List ℕ) (symbol : ℕ) (f s f' s' F S F' S' : List Float)
+    → SendSymbolRule P d symbol f s f' s' 0
+    → SendRule P d F S F' S' 0
+    → (getD f' 4095 zeroPart ≡ getD F' (4096 * symbol + 4095) zeroPart) × (getD s' 4095 zeroPart ≡ getD S' (4096 * symbol + 4095) zeroPart)
+last-alone P d symbol f s f' s' F S F' S' one all = d2 .symbol-of-grid P d symbol f s f' s' F S F' S' 4095 one all (lit< tt)
+
+-- where the last packet is accepted, byte 121 of the packet that has its bits is a byte, and its last bit is heard
+pub last-accepted : (P : Profile) (marks : ℕ) (f s : List Float) (before after : List ℕ) (a : Receipt) (i : ℕ)
+    → ReceiveRule P marks f s before after a
+    → marked marks 15 ≡ 0
+    → packetBits (P .mode) ≡ suc i
+    → Accepted a 15
+    → (e : ℕ → ℕ) × (e 121 < 256) × (heardInPlace P f s 15 i ≡ bitInPlace P e 15 i)
+last-accepted P marks f s before after a i r u long x =
+    let q = d2 .accepts P marks f s before after a r (x .0) 15 (lit< tt) u .0 x in
+    (q .0, q .1 121 (lit< tt), q .2 i (omega arith))
+
+-- the last bit of the last packet is heard as it was sent
+pub last-heard : (P : Profile) (d : List ℕ) (f s : List Float) (i : ℕ)
+    → T (inRange P)
+    → Cells P d 0 (symbols (P .mode)) f s
+    → packetBits (P .mode) ≡ suc i
+    → heardInPlace P f s 15 i ≡ sentInPlace P d 15 i
+last-heard P d f s i t c long = d3 .heard-as-sent P d f s t c 15 i (lit< tt) (omega arith)
+
+module _ (P : Profile) (d : List ℕ) (marks : ℕ) (f s : List Float) (before after : List ℕ) (a : Receipt)
+    (t : T (inRange P))
+    (long : length d ≡ 122 * P .k)
+    (bytes : (i : ℕ) → row d i < 256)
+    (room : length before ≡ 122 * P .k)
+    (firsts : length f ≡ 4096 * symbols (P .mode))
+    (seconds : length s ≡ 4096 * symbols (P .mode))
+    -- the packets 0 to 15 are marked, or doubtful, or no more than three of their bits are decided wrongly
+    (each : (p : ℕ)
+    → p ≤ 15
+    → (marked marks p ≡ 1)
+    ⊎ (Doubtful P f s p ⊎ (differ (packetBits (P .mode)) (heardInPlace P f s p) (sentInPlace P d p) ≤ 3)))
+    (r : ReceiveRule P marks f s before after a) where
+  all : ((p : ℕ) → p < 16 → (marked (a .lost) p ≡ 1) ↔ Lost P marks d f s p)
+      × ((c : ℕ) → Members (Lost P marks d f s) 16 c → c ≤ 16 - P .k → (a .number ≡ 0) × (after ≡ d))
+      × ((c : ℕ) → Members (Lost P marks d f s) 16 c → 16 - P .k < c → (a .number ≡ 9) × (after ≡ before))
+  all =
+      let q = d3 .sent-and-received P d marks f s before after a t long bytes room firsts seconds
+          (λ p l. each p (omega arith)) r in
+      (q .0, q .2, q .3)
+
+  -- the last packet too
+  pub last-lost : (marked (a .lost) 15 ≡ 1) ↔ Lost P marks d f s 15
+  last-lost = all .0 15 (lit< tt)
+
+  -- as many as there is parity come back, and one more does not
+  pub just-enough : Members (Lost P marks d f s) 16 (16 - P .k) → (a .number ≡ 0) × (after ≡ d)
+  just-enough m = all .1 (16 - P .k) m (omega arith)
+
+  pub one-too-many : Members (Lost P marks d f s) 16 (suc (16 - P .k)) → (a .number ≡ 9) × (after ≡ before)
+  one-too-many m = all .2 (suc (16 - P .k)) m (omega arith)

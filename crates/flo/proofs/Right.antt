@@ -1,0 +1,78 @@
+-- The C calls keep the second and the third sentence: what the card's calls do with a profile, they do with the profile that the bytes say.
+use mathlib.Core.Path.{_≡_, sym, _∙_, ap, subst}
+use mathlib.Core.List.{List}
+use Prim.Native.Nat.{ℕ, _<_}
+use native.Mathlib.Decide.{ℕ-discrete}
+use lib.Dec.{T}
+use lib.ListN.{take}
+use Rattle.rules.specs.Bits.{row}
+use Rattle.rules.specs.Answers.{hasRead}
+use Rattle.rules.specs.Profile.{inRange, reading, writing}
+use Rattle.rules.specs.declared.Profile.{Profile}
+use Rattle.rules.specs.declared.Reading.{Reading}
+use Rattle.rules.specs.declared.Writing.{Writing}
+use Rattle.profile.proofs.RoundTrip.{unread}
+use Rattle.card.proofs.D2.{d2}
+use Rattle.card.proofs.D3.{d3}
+use Rattle.flo.specs.Calls.{AfterReading}
+use Rattle.flo.specs.Demands.{said, CallsRight, CallsBring}
+use Rattle.flo.proofs.Demands.{by-reading}
+
+-- bytes that read well say a profile in range
+ranged : (profile : List ℕ) → ((i : ℕ) → row profile i < 256) → reading profile .number ≡ 0 → T (inRange (said profile))
+ranged profile bytes z = d2 .writes (said profile) .0 (ap (λ (w : Writing). w .number) (d2 .written-read profile bytes z))
+
+-- where a refusal of reading can't have been answered, the profile was read
+passed : (profile : List ℕ) {Refused : ℕ → Type 0} {Rule : Profile → Type 0} → AfterReading profile Refused Rule
+    → (Refused (reading profile .number) → reading profile .number ≡ 0)
+    → Rule (said profile) × (reading profile .number ≡ 0)
+passed profile {Rule = Rule} r none = go (ℕ-discrete (reading profile .number) 0)
+  where
+    go : Dec (reading profile .number ≡ 0) → Rule (said profile) × (reading profile .number ≡ 0)
+    go (yes z) = (r .read z, z)
+    go (no ne) = absurd (ne (none (r .unread ne)))
+
+-- no refusal of reading is a number at which cells are read
+not-read : (profile : List ℕ) (n : ℕ) → T (hasRead n) → n ≡ reading profile .number → reading profile .number ≡ 0
+not-read profile n t e = unread profile (subst (λ (m : ℕ). T (hasRead m)) e t)
+
+pub calls-right : CallsRight
+calls-right =
+    record {
+      cells = λ profile d f s f' s' n r z. d2 .cells _ d f s f' s' n (passed profile r (λ q. sym (q .0) ∙ z) .0) z;
+      sends = λ profile d f s f' s' n bytes r. (
+        (λ z.
+        let w = passed profile r (λ q. sym (q .0) ∙ z) in
+        let x = d2 .sends _ d f s f' s' n (w .0) .0 z in
+        (w .1, x .1, x .2, x .3)),
+        λ q. d2 .sends _ d f s f' s' n (r .read (q .0)) .1 (ranged profile bytes (q .0), q .1, q .2, q .3),
+      );
+      symbol-cells = λ profile d symbol f s f' s' n r z.
+          d2 .symbol-cells _ d symbol f s f' s' n (passed profile r (λ q. sym (q .0) ∙ z) .0) z;
+      reads = λ profile marks f s before after lost reasons n bytes r. (
+        (λ t.
+        let w = passed profile r (λ q. not-read profile n t (q .0)) in
+        let x = d2 .reads _ marks f s before after _ (w .0) .0 t in
+        (w .1, x .1, x .2, x .3)),
+        λ q. d2 .reads _ marks f s before after _ (r .read (q .0)) .1 (ranged profile bytes (q .0), q .1, q .2, q .3),
+      );
+      nothing-accepted = λ profile marks f s before after lost reasons n r ne.
+          by-reading profile _ r (λ q. (q .1, q .2)) (λ q. let x = d2 .nothing-accepted _ marks f s before after _ q ne in (x .0, x .1));
+      accepts = λ profile marks f s before after lost reasons n r t p l u.
+          let w = passed profile r (λ q. not-read profile n t (q .0)) in
+          let iff = d2 .accepts _ marks f s before after _ (w .0) t p l u in
+          ((λ e. iff .0 (t, e)), λ q. iff .1 q .1);
+      read-written = λ masks level mode k seeds profile count n S r z.
+          let e = ap (λ (w : Writing). reading (take (w .count) (w .bytes))) (sym (r .answer))
+              ∙ d2 .read-written _ S (ap (λ (w : Writing). w .number) (r .answer) ∙ z) in
+          record { number = sym (ap (λ (x : Reading). x .number) e); value = ap (λ (x : Reading). x .profile) e };
+      written-read = λ profile masks level mode k seeds n bytes r z.
+          record { answer = ap writing (sym (r .value)) ∙ d2 .written-read profile bytes (sym (r .number) ∙ z) };
+    }
+
+pub calls-bring : CallsBring
+calls-bring =
+    record {
+      sent-and-received = λ profile d marks f s before after lost reasons n bytes q long numbers each r.
+          d3 .sent-and-received _ d marks f s before after _ (ranged profile bytes (q .0)) long numbers (q .1) (q .2) (q .3) each (r .read (q .0));
+    }
