@@ -4,3 +4,4 @@ pub mod Accepted
 pub mod Within
 pub mod Filling
 pub mod Checks
+pub mod OneAnswer
