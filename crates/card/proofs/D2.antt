@@ -85,12 +85,12 @@ sends : (P : Profile) (d : List ℕ) (f s f' s' : List Float) (n : ℕ) → Send
 sends P d f s f' s' n r =
     let all : ℕ = 4096 * symbols (P .mode) in (
       (λ z.
-      let w = right P (length d) (length f) (length s) all (sym (r .answer) ∙ z) in
-      (w .range, w .data-long, w .firsts-long, w .seconds-long)),
+          let w = right P (length d) (length f) (length s) all (sym (r .answer) ∙ z) in
+          (w .range, w .data-long, w .firsts-long, w .seconds-long)),
       λ q.
-      let w : Right P (length d) (length f) (length s) all
-      = record { range = q .0; data-long = q .1; firsts-long = q .2; seconds-long = q .3 } in
-      r .answer ∙ passes P (length d) (length f) (length s) all w,
+          let w : Right P (length d) (length f) (length s) all
+          = record { range = q .0; data-long = q .1; firsts-long = q .2; seconds-long = q .3 } in
+          r .answer ∙ passes P (length d) (length f) (length s) all w,
     )
 
 accepts : (P : Profile) (marks : ℕ) (f s : List Float) (before after : List ℕ) (a : Receipt)

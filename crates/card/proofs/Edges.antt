@@ -90,7 +90,7 @@ module _ (P : Profile) (d : List ℕ) (marks : ℕ) (f s : List Float) (before a
       × ((c : ℕ) → Members (Lost P marks d f s) 16 c → 16 - P .k < c → (a .number ≡ 9) × (after ≡ before))
   all =
       let q = d3 .sent-and-received P d marks f s before after a t long bytes room firsts seconds
-          (λ p l. each p (omega arith)) r in
+      (λ p l. each p (omega arith)) r in
       (q .0, q .2, q .3)
 
   -- the last packet too

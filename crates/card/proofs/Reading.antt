@@ -56,12 +56,12 @@ module _ (P : Profile) (marks : ℕ) (f s : List Float) (before after : List ℕ
   unfolding first
   reads = (
     (λ t.
-    let w = right P (length before) (length f) (length s) (4096 * symbols (P .mode)) (read-first t) in
-    (w .range, w .data-long, w .firsts-long, w .seconds-long)),
+        let w = right P (length before) (length f) (length s) (4096 * symbols (P .mode)) (read-first t) in
+        (w .range, w .data-long, w .firsts-long, w .seconds-long)),
     λ q.
-    let w : Right P (length before) (length f) (length s) (4096 * symbols (P .mode))
-    = record { range = q .0; data-long = q .1; firsts-long = q .2; seconds-long = q .3 } in
-    delivered-read (r .judged (passes P (length before) (length f) (length s) (4096 * symbols (P .mode)) w) .delivered),
+        let w : Right P (length before) (length f) (length s) (4096 * symbols (P .mode))
+        = record { range = q .0; data-long = q .1; firsts-long = q .2; seconds-long = q .3 } in
+        delivered-read (r .judged (passes P (length before) (length f) (length s) (4096 * symbols (P .mode)) w) .delivered),
   )
 
   pub nothing-accepted : ¬ T (hasRead (a .number)) → (a .lost ≡ 0) × (a .reasons ≡ replicate 16 0) × ((p : ℕ) → ¬ Accepted a p)

@@ -42,18 +42,18 @@ calls-right =
       cells = λ profile d f s f' s' n r z. d2 .cells _ d f s f' s' n (passed profile r (λ q. sym (q .0) ∙ z) .0) z;
       sends = λ profile d f s f' s' n bytes r. (
         (λ z.
-        let w = passed profile r (λ q. sym (q .0) ∙ z) in
-        let x = d2 .sends _ d f s f' s' n (w .0) .0 z in
-        (w .1, x .1, x .2, x .3)),
+            let w = passed profile r (λ q. sym (q .0) ∙ z) in
+            let x = d2 .sends _ d f s f' s' n (w .0) .0 z in
+            (w .1, x .1, x .2, x .3)),
         λ q. d2 .sends _ d f s f' s' n (r .read (q .0)) .1 (ranged profile bytes (q .0), q .1, q .2, q .3),
       );
       symbol-cells = λ profile d symbol f s f' s' n r z.
           d2 .symbol-cells _ d symbol f s f' s' n (passed profile r (λ q. sym (q .0) ∙ z) .0) z;
       reads = λ profile marks f s before after lost reasons n bytes r. (
         (λ t.
-        let w = passed profile r (λ q. not-read profile n t (q .0)) in
-        let x = d2 .reads _ marks f s before after _ (w .0) .0 t in
-        (w .1, x .1, x .2, x .3)),
+            let w = passed profile r (λ q. not-read profile n t (q .0)) in
+            let x = d2 .reads _ marks f s before after _ (w .0) .0 t in
+            (w .1, x .1, x .2, x .3)),
         λ q. d2 .reads _ marks f s before after _ (r .read (q .0)) .1 (ranged profile bytes (q .0), q .1, q .2, q .3),
       );
       nothing-accepted = λ profile marks f s before after lost reasons n r ne.
@@ -64,7 +64,7 @@ calls-right =
           ((λ e. iff .0 (t, e)), λ q. iff .1 q .1);
       read-written = λ masks level mode k seeds profile count n S r z.
           let e = ap (λ (w : Writing). reading (take (w .count) (w .bytes))) (sym (r .answer))
-              ∙ d2 .read-written _ S (ap (λ (w : Writing). w .number) (r .answer) ∙ z) in
+          ∙ d2 .read-written _ S (ap (λ (w : Writing). w .number) (r .answer) ∙ z) in
           record { number = sym (ap (λ (x : Reading). x .number) e); value = ap (λ (x : Reading). x .profile) e };
       written-read = λ profile masks level mode k seeds n bytes r z.
           record { answer = ap writing (sym (r .value)) ∙ d2 .written-read profile bytes (sym (r .number) ∙ z) };

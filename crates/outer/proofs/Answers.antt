@@ -120,9 +120,11 @@ pub one-restoring : (k lost : ℕ) {before after after' : List ℕ} {n m : ℕ} 
     → Restored k lost before after n
     → Restored k lost before after' m
     → (n ≡ m) × (after ≡ after')
-one-restoring k lost {after = after} {after' = after'} fits (Restored.restored t b few long each) (Restored.restored t' b' few' long' each') =
-    (refl, same-columns after after' long long'
-    (λ j l. unique fits few (rate k t) (each j l .0) (each' j l .0) (each j l .1) (each' j l .1)))
+one-restoring k lost {after = after} {after' = after'} fits (Restored.restored t b few long each) (Restored.restored t' b' few' long' each') = (
+  refl,
+  same-columns after after' long long'
+      (λ j l. unique fits few (rate k t) (each j l .0) (each' j l .0) (each j l .1) (each' j l .1)),
+)
 one-restoring k lost {after = after} fits (Restored.restored t b few long each) (Restored.noCodeword t' b' few' j l none e) =
     absurd (none (column after j) (each j l .0) (each j l .1))
 one-restoring k lost {after' = after'} fits (Restored.noCodeword t b few j l none e) (Restored.restored t' b' few' long' each') =
