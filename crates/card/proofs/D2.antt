@@ -20,7 +20,6 @@ use Rattle.rules.specs.declared.Profile.{Profile}
 use Rattle.rules.specs.declared.Receipt.{Receipt}
 use Rattle.laws.specs.Holds.{holds-one}
 use Rattle.profile.proofs.RoundTrip.{read-written, written-read}
-use Rattle.block.proofs.Ranges.{ranges}
 use Rattle.receiving.proofs.BySymbol.{in-turn-received}
 use Rattle.card.proofs.OneAnswer.{one-answer, one-hearing}
 use Rattle.card.proofs.Place.{judges, reason-verdict, accepted}
@@ -87,7 +86,7 @@ accepts : (P : Profile) (marks : ℕ) (f s : List Float) (before after : List �
     → (row (a .reasons) p ≡ 0) ↔ SomePacket P f s p
 accepts P marks f s before after a r t b x y p l u =
     let is = judges f s r t b x y .reasons-are p l ∙ reason-verdict P marks f s p (omega arith) in
-    let iff = accepted P (ranges P t .mode) f s p in
+    let iff = accepted P f s p in
     ((λ e. iff .0 (sym is ∙ e)), λ q. is ∙ iff .1 q)
 
 pub d2 : D2

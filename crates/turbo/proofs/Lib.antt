@@ -3,4 +3,5 @@ pub mod Modes
 pub mod Accepted
 pub mod Within
 pub mod Filling
-pub mod Checks
+pub mod Coding
+pub mod Weighing
