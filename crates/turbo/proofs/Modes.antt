@@ -67,7 +67,7 @@ sizes true = (refl, refl, omega arith)
 sizes false = (refl, refl, omega arith)
 
 module _ (m : ℕ) where
-  whole : packetBits m ≡ 4 * (packetBits m / 4)
+  pub whole : packetBits m ≡ 4 * (packetBits m / 4)
   whole = sizes (eqb m 0) .0
 
   long : codedLength (rate m) 994 ≡ packetBits m
@@ -77,7 +77,7 @@ module _ (m : ℕ) where
   bits-most = sizes (eqb m 0) .2
 
   -- which of the bits before the bit interleaver is sent as bit i, and where that stands in the streams
-  pub source-lt : (i : ℕ) → i < packetBits m → bitInterleaved (packetBits m) i < packetBits m
+  source-lt : (i : ℕ) → i < packetBits m → bitInterleaved (packetBits m) i < packetBits m
   source-lt = interleaved-lt (packetBits m) whole
 
   pub rate-place-lt : (n : ℕ) → n < packetBits m → place (rate m) n < 3988
