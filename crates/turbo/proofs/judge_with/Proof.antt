@@ -11,7 +11,7 @@ use Rattle.rules.specs.Bits.{row}
 use Rattle.rules.specs.Slots.{packetBits, coded}
 use Rattle.rules.specs.Block.{verdict, byteOf, decidedData, checkRight, reservedRight}
 use Rattle.rules.specs.declared.Judgement.{Judgement}
-use Rattle.laws.specs.Holds.{Holds, holds-as}
+use Rattle.laws.specs.Holds.{holds-as}
 use Rattle.laws.specs.Rows.{Bits}
 use Rattle.laws.specs.Filled.{holds-bits}
 use Rattle.packet.proofs.Bits.{check-same, reserved-same, byte-same, lowest-bytes}
