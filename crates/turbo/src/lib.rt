@@ -78,7 +78,7 @@ fn place(mode: u8, n: usize) -> usize
 }
 
 // How many bits a packet has.
-pub(crate) fn packet_bits(mode: u8) -> usize
+fn packet_bits(mode: u8) -> usize
     ensures { λ r. ⌜ (r ≡ packetBits mode) × (2000 ≤ r) × (r ≤ 3000) ⌝ }
 {
     if mode == 0 { 3000 } else { 2000 }
@@ -94,7 +94,7 @@ fn sent_place(mode: u8, i: usize) -> usize
 }
 
 // The places of all that is sent for a packet, and zeros after them. They are the same for every packet.
-pub(crate) fn places(mode: u8) -> [u16; 3000]
+fn places(mode: u8) -> [u16; 3000]
     ensures { λ r. ⌜ Places mode r ⌝ }
 {
     let n = packet_bits(mode);
@@ -256,7 +256,7 @@ fn send(places: &[u16], mode: u8, all: [u8; 3988], out: &mut [u8])
     }
 }
 
-pub(crate) fn copy(from: &[u8], to: &mut [u8])
+fn copy(from: &[u8], to: &mut [u8])
     requires { ⌜ length (now from) ≡ length (now to) ⌝ }
     ensures { λ _. ⌜ now (to .exit) ≡ now (from .entry) ⌝ }
 {
@@ -285,7 +285,7 @@ fn bits_of(data: &[u8]) -> [u8; 1000]
 }
 
 // One packet of 122 bytes, coded and interleaved; the addresses are the interleaver's, and the places the mode's.
-pub(crate) fn code_with(addresses: &[u16], places: &[u16], mode: u8, data: &[u8], out: &mut [u8])
+fn code_with(addresses: &[u16], places: &[u16], mode: u8, data: &[u8], out: &mut [u8])
     requires { ⌜ Addresses (now addresses) × Places mode (now places) × (length (now «data») ≡ 122) × (length (now out) ≡ packetBits mode) ⌝ }
     ensures { λ _. ⌜ Holds 0 (packetBits mode) (coded mode (packetBit (row (now («data» .entry))))) (now (out .exit)) ⌝ }
 {
@@ -371,7 +371,7 @@ fn refused(reason: u8) -> Judgement
 }
 
 // Judges the first decided bits, as many as a packet of the mode has; the addresses are the interleaver's, and the places the mode's.
-pub(crate) fn judge_with(addresses: &[u16], places: &[u16], mode: u8, v: &[u8]) -> Judgement
+fn judge_with(addresses: &[u16], places: &[u16], mode: u8, v: &[u8]) -> Judgement
     requires { ⌜ Addresses (now addresses) × Places mode (now places) × (packetBits mode ≤ length (now v)) ⌝ }
     ensures { λ r. ⌜ JudgingRule mode (row (now (v .entry))) r ⌝ }
 {
