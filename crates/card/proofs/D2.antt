@@ -22,7 +22,6 @@ use Rattle.rules.specs.declared.Receipt.{Receipt}
 use Rattle.laws.specs.Holds.{holds-one}
 use Rattle.profile.proofs.RoundTrip.{writes, read-written, written-read}
 use Rattle.block.proofs.Passed.{Right, right, passes}
-use Rattle.block.proofs.Ranges.{ranges}
 use Rattle.receiving.proofs.BySymbol.{in-turn-received}
 use Rattle.card.proofs.OneAnswer.{one-answer, one-hearing}
 use Rattle.card.proofs.Reading.{reads, nothing-accepted, own-cells}
@@ -103,7 +102,7 @@ accepts : (P : Profile) (marks : ℕ) (f s : List Float) (before after : List �
 accepts P marks f s before after a r t p l u =
     let w = reads P marks f s before after a r .0 t in
     let is = judges f s r (w .0) (w .1) (w .2) (w .3) .reasons-are p l ∙ reason-verdict P marks f s p (omega arith) in
-    let iff = accepted P (ranges P (w .0) .mode) f s p in
+    let iff = accepted P f s p in
     ((λ x. iff .0 (sym is ∙ x .1)), λ q. (t, is ∙ iff .1 q))
 
 pub d2 : D2

@@ -24,7 +24,7 @@ use Rattle.outer.proofs.Solve.{unique}
 use Rattle.turbo.proofs.Accepted.{accepted-coded, coded-accepted, accepted-bytes}
 use Rattle.card.proofs.Grid.{grid-heard}
 use Rattle.card.proofs.Few.{few-same}
-use Rattle.receiving.proofs.Mask.{mask-lt}
+use Rattle.laws.specs.Mask.{mask-lt}
 use Rattle.block.proofs.Ranges.{ranges}
 use Rattle.card.proofs.Mask.{mask-kept}
 use Rattle.card.proofs.Differ.{find}
@@ -38,7 +38,7 @@ Expected P marks d f s p =
 
 -- ---- one packet
 
-module _ (P : Profile) (t : T (inRange P)) (d : List ℕ) (f s : List Float) (p : ℕ) where
+module _ (P : Profile) (d : List ℕ) (f s : List Float) (p : ℕ) where
   -- its decided bits are those that were sent
   abbrev Whole : Type 0
   Whole = (i : ℕ) → i < packetBits (P .mode) → part P f s p i ≡ coded (P .mode) (packetBit (packet (P .k) d p)) i
@@ -46,7 +46,7 @@ module _ (P : Profile) (t : T (inRange P)) (d : List ℕ) (f s : List Float) (p 
   sent-part : (i : ℕ) → i < packetBits (P .mode)
       → (part P f s p i ≡ coded (P .mode) (packetBit (packet (P .k) d p)) i) ↔ (heardInPlace P f s p i ≡ sentInPlace P d p i)
   sent-part i l =
-      let iff = part-place P (ranges P t .mode) f s p (packet (P .k) d p) i l in
+      let iff = part-place P f s p (packet (P .k) d p) i l in
       let same = sent-place P d p i l in
       ((λ h. iff .0 h ∙ sym same), λ h. iff .1 (h ∙ same))
 
@@ -54,10 +54,10 @@ module _ (P : Profile) (t : T (inRange P)) (d : List ℕ) (f s : List Float) (p 
       → differ (packetBits (P .mode)) (heardInPlace P f s p) (sentInPlace P d p) ≤ 3
       → Whole
   few-whole z few i l =
-      let own = accepted-coded (P .mode) (ranges P t .mode) (part P f s p) z .1 in
+      let own = accepted-coded (P .mode) (part P f s p) z .1 in
       let e : ℕ → ℕ = byteOf (decidedData (P .mode) (part P f s p)) in
       own i l
-      ∙ few-same (P .mode) (ranges P t .mode) e (packet (P .k) d p) (heardInPlace P f s p) (sentInPlace P d p)
+      ∙ few-same (P .mode) e (packet (P .k) d p) (heardInPlace P f s p) (sentInPlace P d p)
       (λ k h q. sym (own k h) ∙ sent-part k h .1 q) few i l
 
   module _ (marks : ℕ) (each : Expected P marks d f s p) where
@@ -73,7 +73,7 @@ module _ (P : Profile) (t : T (inRange P)) (d : List ℕ) (f s : List Float) (p 
 
         go : Expected P marks d f s p → Whole
         go (inl q) = absurd (unmarked q)
-        go (inr (inl q)) = absurd (omega (arith, q .2, accepted P (ranges P t .mode) f s p .0 plain .2 (q .0) (q .1)))
+        go (inr (inl q)) = absurd (omega (arith, q .2, accepted P f s p .0 plain .2 (q .0) (q .1)))
         go (inr (inr few)) = few-whole plain few
 
     -- lost exactly where it isn't accepted
@@ -88,7 +88,7 @@ module _ (P : Profile) (t : T (inRange P)) (d : List ℕ) (f s : List Float) (p 
         there (no q) (inl w) ne = inr (inr w)
         there (no q) (inr h) ne =
             absurd (ne (reason-verdict P marks f s p q
-            ∙ coded-accepted (P .mode) (ranges P t .mode) (part P f s p) (packet (P .k) d p) (λ i l. sent-part i l .1 (h i l))))
+            ∙ coded-accepted (P .mode) (part P f s p) (packet (P .k) d p) (λ i l. sent-part i l .1 (h i l))))
 
         back : Lost P marks d f s p → ¬ (reasonIn P marks f s p ≡ 0)
         back (inl q) z = reason-unmarked P marks f s p z q
@@ -139,15 +139,15 @@ module _ (P : Profile) (d : List ℕ) (marks : ℕ) (f s : List Float) (before a
 
   lost-set : (p : ℕ) → p < 16 → (marked (a .lost) p ≡ 1) ↔ Lost P marks d f s p
   lost-set p l =
-      let iff = lost-reason P t d f s p marks (each p l) in (
+      let iff = lost-reason P d f s p marks (each p l) in (
         (λ e. iff .0 (λ z. omega (arith, kept-reason p l .1 z, e))),
         λ q. let ne : ¬ (marked (a .lost) p ≡ 0) = (λ e. iff .1 q (kept-reason p l .0 e)) in omega arith,
       )
 
   agrees : (i : ℕ) → i < 122 → Agree (a .lost) (λ p. packet (P .k) d p i) (λ p. byteOf (decidedData (P .mode) (part P f s p)) i)
   agrees i l p h e =
-      sym (accepted-bytes (P .mode) (ranges P t .mode) (part P f s p) (packet (P .k) d p)
-      (accepted-whole P t d f s p marks (each p h) (kept-reason p h .0 e)) i l (sent-word (P .k) d bytes i .bytes p h))
+      sym (accepted-bytes (P .mode) (part P f s p) (packet (P .k) d p)
+      (accepted-whole P d f s p marks (each p h) (kept-reason p h .0 e)) i l (sent-word (P .k) d bytes i .bytes p h))
 
   fits : a .lost < 2 ^ 16
   fits = subst (λ (x : ℕ). x < 2 ^ 16) (sym (j .lost-is)) (mask-lt (row (a .reasons)) 16)

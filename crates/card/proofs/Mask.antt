@@ -7,7 +7,7 @@ use borrow.Author.Tests.{eq-eqb}
 use Rattle.rules.specs.Bits.{pick}
 use Rattle.rules.specs.Outer.{marked}
 use Rattle.rules.specs.Block.{lostMask}
-use Rattle.receiving.proofs.Mask.{mask-marked, mask-kept as kept-reason}
+use Rattle.laws.specs.Mask.{mask-marked, mask-kept as kept-reason}
 
 pub mask-kept : (reasons : ℕ → ℕ) (n p : ℕ) → p < n → (marked (lostMask n reasons) p ≡ 0) ↔ (reasons p ≡ 0)
 mask-kept reasons n p l =

@@ -19,7 +19,7 @@ use Rattle.outer.proofs.Roots.{k-range, rate as outer-rate}
 use Rattle.outer.proofs.Solve.{unique}
 use Rattle.block.proofs.Ranges.{ranges}
 use Rattle.block.proofs.Passed.{right}
-use Rattle.receiving.proofs.Mask.{mask-lt}
+use Rattle.laws.specs.Mask.{mask-lt}
 
 module _ {k lost : ℕ} {kept : ℕ → ℕ → ℕ} {before : List ℕ} (t : T (isK k)) (fits : lost < 2 ^ 16) where
   one-delivery : {after after' : List ℕ} {n m : ℕ}

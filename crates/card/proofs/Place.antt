@@ -14,7 +14,7 @@ use borrow.Author.Tests.{eq-eqb, ne-eqb}
 use Rattle.rules.specs.Bits.{pick}
 use Rattle.rules.specs.Packet.{packetBit}
 use Rattle.rules.specs.Outer.{marked}
-use Rattle.rules.specs.Slots.{isMode, slotBits, packetBits, coded, symbols}
+use Rattle.rules.specs.Slots.{slotBits, packetBits, coded, symbols}
 use Rattle.rules.specs.Profile.{inRange}
 use Rattle.rules.specs.Block.{packet, scrambler, sentBit, heard, unscrambled, decided, packetPart, verdict, reason, ReceiveRule, Judged}
 use Rattle.rules.specs.Demands.{bitInPlace, heardInPlace, sentInPlace, SomePacket}
@@ -71,14 +71,14 @@ module _ (P : Profile) (marks : ℕ) (f s : List Float) (p : ℕ) where
   unfolding reason
   reason-unmarked z e = omega (arith, sym (ap (λ (b : Bool). pick b 11 (verdict (P .mode) (part P f s p))) (eq-eqb (marked marks p) 1 e)) ∙ z)
 
-module _ (P : Profile) (mode : T (isMode (P .mode))) (f s : List Float) (p : ℕ) where
+module _ (P : Profile) (f s : List Float) (p : ℕ) where
   pub part-place : (e : ℕ → ℕ) (i : ℕ) → i < packetBits (P .mode)
       → (part P f s p i ≡ coded (P .mode) (packetBit e) i) ↔ (heardInPlace P f s p i ≡ bitInPlace P e p i)
   unfolding decided
   part-place e i l =
       let t : ℕ = (packetBits (P .mode) * p + i) / slotBits (P .mode) in
       let g : ℕ = (packetBits (P .mode) * p + i) % slotBits (P .mode) in
-      let bit : coded (P .mode) (packetBit e) i < 2 = coded-bit (P .mode) mode (packetBit e) (λ k h. packet-bit-lt e k) i l in (
+      let bit : coded (P .mode) (packetBit e) i < 2 = coded-bit (P .mode) (packetBit e) (λ k h. packet-bit-lt e k) i l in (
         turned (heard f s t g) (scrambler P t g) (coded (P .mode) (packetBit e) i) (heard-lt f s t g) (scrambling-lt _ _ g) bit,
         λ h. ap (λ (x : ℕ). unscrambled x (scrambler P t g)) h ∙ unscrambled-twice (coded (P .mode) (packetBit e) i) (scrambler P t g) bit,
       )
@@ -86,8 +86,8 @@ module _ (P : Profile) (mode : T (isMode (P .mode))) (f s : List Float) (p : ℕ
   -- accepted exactly where some packet has the bits
   pub accepted : (verdict (P .mode) (part P f s p) ≡ 0) ↔ SomePacket P f s p
   accepted = (
-    (λ e. let c = accepted-coded (P .mode) mode (part P f s p) e in (_, c .0, λ i l. part-place _ i l .0 (c .1 i l))),
-    λ q. coded-accepted (P .mode) mode (part P f s p) (q .0) (λ i l. part-place (q .0) i l .1 (q .2 i l)),
+    (λ e. let c = accepted-coded (P .mode) (part P f s p) e in (_, c .0, λ i l. part-place _ i l .0 (c .1 i l))),
+    λ q. coded-accepted (P .mode) (part P f s p) (q .0) (λ i l. part-place (q .0) i l .1 (q .2 i l)),
   )
 
 -- what is sent for packet p of a block

@@ -17,7 +17,6 @@ use Rattle.rules.specs.Block.{early, heard, decided, scrambler, unscrambled, si
 use Rattle.rules.specs.declared.Profile.{Profile}
 use Rattle.rules.specs.declared.Receipt.{Receipt}
 use Rattle.block.proofs.Passed.{Right, right, passes}
-use Rattle.block.proofs.Ranges.{ranges}
 use Rattle.receiving.proofs.Judgement.{judged-same}
 use Rattle.card.proofs.OneAnswer.{one-answer}
 
@@ -80,9 +79,7 @@ module _ (P : Profile) (marks : ℕ) (f s f' s' : List Float) (before : List ℕ
         refused = λ ne.
             let q = r .refused (λ z. ne (sym same ∙ z)) in
             (q .0 ∙ ap silence same, q .1);
-        judged = λ z.
-            let w = right P (length before) (length f') (length s') (4096 * symbols (P .mode)) z in
-            judged-same P marks (ranges P (w .range) .mode) (decided P f s) (decided P f' s') bit (r .judged (same ∙ z));
+        judged = λ z. judged-same P marks (decided P f s) (decided P f' s') bit (r .judged (same ∙ z));
       }
     where
       same : early P (length before) (length f) (length s) (4096 * symbols (P .mode))

@@ -1,7 +1,8 @@
--- A computed test of each number below n, and what it gives at each of them.
-use mathlib.Core.Path.{_≡_, subst, sym}
-use mathlib.Core.Bool.{Bool}
-use Prim.Native.Nat.{ℕ, zero, suc, _<_}
+-- A computed test of each number below n: what it gives at each of them, one number more, and two tests that agree.
+use mathlib.Core.Path.{_≡_, refl, subst, sym, ap₂}
+use mathlib.Core.Bool.{Bool, _&&_}
+use Prim.Native.Nat.{ℕ, zero, suc, _+_, _<_}
+use native.Mathlib.Numerals.{add-one}
 use native.Mathlib.Decide.{ℕ-discrete}
 use native.Mathlib.Omega.{arith}
 use lib.Dec.{T}
@@ -19,3 +20,10 @@ every-at (suc n) f t i h = go (ℕ-discrete i n) (every-at n f (and-l (everyBelo
 pub every-of : (n : ℕ) (f : ℕ → Bool) → ((i : ℕ) → i < n → T (f i)) → T (everyBelow n f)
 every-of zero f h = tt
 every-of (suc n) f h = and-i (everyBelow n f) (f n) (every-of n f (λ i lt. h i (omega arith))) (h n (omega arith))
+
+pub every-next : (n : ℕ) (f : ℕ → Bool) → everyBelow (n + 1) f ≡ (everyBelow n f && f n)
+every-next n f = rw add-one
+
+pub every-same : (n : ℕ) (f g : ℕ → Bool) → ((i : ℕ) → i < n → f i ≡ g i) → everyBelow n f ≡ everyBelow n g
+every-same zero f g same = refl
+every-same (suc n) f g same = ap₂ _&&_ (every-same n f g (λ i lt. same i (omega arith))) (same n (omega arith))

@@ -1,8 +1,8 @@
 -- A packet's bytes and its bits say the same.
 use mathlib.Core.Path.{_≡_, refl, sym, ap, ap₂, _∙_}
-use mathlib.Core.Bool.{Bool, true, false}
+use mathlib.Core.Bool.{Bool, true, false, _&&_}
 use Prim.Native.Nat.{ℕ, zero, suc, _+_, _-_, _*_, _/_, _%_, _^_, _<_, _≤_}
-use native.Mathlib.Nat.{mod-lt, le-refl, div-one}
+use native.Mathlib.Nat.{mod-lt, mod-eq-of-lt, le-refl, div-one}
 use native.Mathlib.Decide.{ℕ-discrete, decLt}
 use native.Mathlib.Omega.{arith}
 use lib.Dec.{T, eqb, ltb, lit<, eqb→eq}
@@ -12,7 +12,7 @@ use Rattle.rules.specs.Bits.{pick, bitOf, byteBit}
 use Rattle.rules.specs.Packet.{checkStep, checkRegister, checkWord, packetBit}
 use Rattle.packet.proofs.Number.{number-same, number-byte, number-of-bits, bit-of-number}
 use Rattle.rules.specs.Block.{byteOf, checkRight, reservedRight}
-use Rattle.laws.specs.Every.{every-at}
+use Rattle.laws.specs.Every.{every-at, every-same}
 
 -- ---- the rules by cases
 
@@ -82,6 +82,25 @@ packet-same d e h i = go (decLt i 976)
     go : Dec (i < 976) → packetBit d i ≡ packetBit e i
     go (yes lt) = data-bit d i lt ∙ at i lt ∙ sym (data-bit e i lt)
     go (no ge) = rw (le-ltb i 976 (omega arith), word-same (byteBit d) (byteBit e) 976 at)
+
+-- ---- the same of rows that have the same 994 bits
+
+module _ (x y : ℕ → ℕ) (same : (i : ℕ) → i < 994 → x i ≡ y i) where
+  pub check-same : checkRight x ≡ checkRight y
+  check-same =
+      every-same 16 (λ i. eqb (x (976 + i)) (bitOf 16 (checkWord x 976) i)) (λ i. eqb (y (976 + i)) (bitOf 16 (checkWord y 976) i))
+      (λ i lt. ap₂ eqb (same (976 + i) (omega arith)) (ap (λ (w : ℕ). bitOf 16 w i) (word-same x y 976 (λ k below. same k (omega arith)))))
+
+  pub reserved-same : reservedRight x ≡ reservedRight y
+  reserved-same = ap₂ (λ (a b : ℕ). eqb a 0 && eqb b 0) (same 992 (omega arith)) (same 993 (omega arith))
+
+  pub byte-same : (j : ℕ) → j < 122 → byteOf x j ≡ byteOf y j
+  byte-same j lt =
+      sym (number-byte x j) ∙ number-same (λ k. x (8 * j + k)) (λ k. y (8 * j + k)) 8 (λ k below. same (8 * j + k) (omega arith)) ∙ number-byte y j
+
+-- bits count as they are
+pub lowest-bytes : (x : ℕ → ℕ) → ((i : ℕ) → i < 994 → x i < 2) → (j : ℕ) → j < 122 → byteOf (λ i. x i % 2) j ≡ byteOf x j
+lowest-bytes x bit = byte-same (λ i. x i % 2) x (λ i lt. mod-eq-of-lt (bit i lt))
 
 -- ---- from bits to bytes
 

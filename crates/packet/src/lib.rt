@@ -1,19 +1,17 @@
 // A packet's bits and its check word. A bit is a byte that is 0 or 1.
 ghost use mathlib.Core.Path.{_≡_};
 ghost use mathlib.Core.Bool.{_&&_};
-ghost use Prim.Native.Nat.{_<_, _≤_};
+ghost use Prim.Native.Nat.{_%_, _<_, _≤_};
 ghost use lib.Dec.{eqb};
 ghost use lib.ListN.{length};
 ghost use Rattle.rules.specs.Bits.{row, bitOf};
 ghost use Rattle.rules.specs.Packet.{checkStep, checkWord, packetBit};
 ghost use Rattle.rules.specs.Block.{byteOf, checkRight, reservedRight};
 ghost use Rattle.laws.specs.Holds.{Holds};
-ghost use Rattle.laws.specs.Rows.{Bits};
 ghost use Rattle.laws.specs.Filled.{upTo};
 
 // The check register after one bit more.
 fn check_step(s: u16, b: u8) -> u16
-    requires { ⌜ b < 2 ⌝ }
     ensures { λ r. ⌜ r ≡ checkStep s b ⌝ }
 {
     let top = (s / 32768 + b as u16) % 2;
@@ -22,8 +20,8 @@ fn check_step(s: u16, b: u8) -> u16
 }
 
 // The check word of the first n bits.
-pub fn check_of(x: &[u8], n: usize) -> u16
-    requires { ⌜ (n ≤ length (now x)) × Bits (now x) ⌝ }
+fn check_word(x: &[u8], n: usize) -> u16
+    requires { ⌜ n ≤ length (now x) ⌝ }
     ensures { λ r. ⌜ r ≡ checkWord (row (now (x .entry))) n ⌝ }
 {
     let mut s = 65535u16;
@@ -35,12 +33,11 @@ pub fn check_of(x: &[u8], n: usize) -> u16
     65535 - s
 }
 
-// The check word of a packet's 976 data bits.
-pub fn check_word(x: &[u8]) -> u16
-    requires { ⌜ (976 ≤ length (now x)) × Bits (now x) ⌝ }
-    ensures { λ r. ⌜ r ≡ checkWord (row (now (x .entry))) 976 ⌝ }
+// The check word of all of them.
+pub fn check_of(x: &[u8]) -> u16
+    ensures { λ r. ⌜ r ≡ checkWord (row (now (x .entry))) (length (now (x .entry))) ⌝ }
 {
-    check_of(x, 976)
+    check_word(x, x.len())
 }
 
 // Bit i of a byte, the highest first.
@@ -74,12 +71,11 @@ fn data_bits(data: &[u8]) -> [u8; 1000]
 }
 
 // The 1000 bits of the packet that holds these 122 bytes.
-pub fn bits_of(data: &[u8]) -> [u8; 1000]
-    requires { ⌜ length (now «data») ≡ 122 ⌝ }
-    ensures { λ r. ⌜ Holds 0 1000 (packetBit (row (now («data» .entry)))) r ⌝ }
+pub fn bits_of(data: [u8; 122]) -> [u8; 1000]
+    ensures { λ r. ⌜ Holds 0 1000 (packetBit (row «data»)) r ⌝ }
 {
-    let mut x = data_bits(data);
-    let w = check_word(&x);
+    let mut x = data_bits(&data);
+    let w = check_word(&x, 976);
     let mut i = 0;
     while i < 16 {
         x[976 + i] = word_bit(w, i);
@@ -96,11 +92,10 @@ fn also_same(ok: bool, a: u8, b: u8) -> bool
 }
 
 // Whether the check bits are the check word's.
-pub fn check_right(x: &[u8]) -> bool
-    requires { ⌜ (992 ≤ length (now x)) × Bits (now x) ⌝ }
-    ensures { λ r. ⌜ r ≡ checkRight (row (now (x .entry))) ⌝ }
+pub fn check_right(x: [u8; 994]) -> bool
+    ensures { λ r. ⌜ r ≡ checkRight (row x) ⌝ }
 {
-    let w = check_word(x);
+    let w = check_word(&x, 976);
     let mut ok = true;
     let mut i = 0;
     while i < 16 {
@@ -111,23 +106,35 @@ pub fn check_right(x: &[u8]) -> bool
 }
 
 // Whether the two reserved bits are zero.
-pub fn reserved_right(x: &[u8]) -> bool
-    requires { ⌜ 994 ≤ length (now x) ⌝ }
-    ensures { λ r. ⌜ r ≡ reservedRight (row (now (x .entry))) ⌝ }
+pub fn reserved_right(x: [u8; 994]) -> bool
+    ensures { λ r. ⌜ r ≡ reservedRight (row x) ⌝ }
 {
     x[992] == 0 && x[993] == 0
 }
 
-// Byte j of the packet whose bits these are.
-pub fn byte_of(x: &[u8], j: usize) -> u8
-    requires { ⌜ (j < 122) × (976 ≤ length (now x)) × Bits (now x) ⌝ }
-    ensures { λ r. ⌜ r ≡ byteOf (row (now (x .entry))) j ⌝ }
+// Byte j of a packet's bits: what is neither 0 nor 1 counts by its lowest bit.
+fn byte_of(x: &[u8], j: usize) -> u8
+    requires { ⌜ (j < 122) × (976 ≤ length (now x)) ⌝ }
+    ensures { λ r. ⌜ r ≡ byteOf (λ i. row (now (x .entry)) i % 2) j ⌝ }
 {
     let mut b = 0u8;
     let mut i = 0;
     while i < 8 {
-        b = b * 2 + x[8 * j + i];
+        b = b * 2 + x[8 * j + i] % 2;
         i = i + 1;
     }
     b
+}
+
+// The 122 bytes of a packet's bits: what is neither 0 nor 1 counts by its lowest bit.
+pub fn bytes_of(x: [u8; 994]) -> [u8; 122]
+    ensures { λ r. ⌜ Holds 0 122 (byteOf (λ i. row x i % 2)) r ⌝ }
+{
+    let mut bytes = [0u8; 122];
+    let mut j = 0;
+    while j < 122 {
+        bytes[j] = byte_of(&x, j);
+        j = j + 1;
+    }
+    bytes
 }

@@ -5,19 +5,16 @@ use mathlib.Core.List.{List}
 use Prim.Native.Nat.{ℕ, _+_, _*_, _/_, _%_, _<_}
 use native.Mathlib.Decide.{ℕ-discrete}
 use native.Mathlib.Omega.{arith}
-use lib.Dec.{T}
 use lib.Ieee.{Float}
 use lib.ListN.{length}
 use borrow.Author.Tests.{eq-eqb, ne-eqb}
 use Rattle.rules.specs.Bits.{pick, row}
-use Rattle.rules.specs.Slots.{isMode, slotBits, slots, symbols, symbolOf}
+use Rattle.rules.specs.Slots.{slotBits, slots, symbols, symbolOf}
 use Rattle.rules.specs.Block.{scrambler, unscrambled, early, understood, heard, decided, silence, Judged, ReceiveRule, HearRule, ConcludeRule, symbolPart, InTurn}
 use Rattle.rules.specs.declared.Profile.{Profile}
 use Rattle.rules.specs.declared.Receipt.{Receipt}
 use Rattle.cells.specs.Symbol.{heardIn, decidedIn}
 use Rattle.cells.proofs.Heard.{HeardTo, decided-in, heard-none, heard-all}
-use Rattle.block.proofs.Ranges.{ranges}
-use Rattle.block.proofs.Passed.{right}
 use Rattle.receiving.proofs.Judgement.{judged-same}
 use Rattle.receiving.proofs.Numbers.{early-whole}
 
@@ -64,11 +61,11 @@ in-turn P f s (InTurn.none bits) = heard-none (P .mode) f s bits
 in-turn P f s (InTurn.next y before after t h) = hear-next P f s y before after 0 h refl (in-turn P f s t)
 
 module _ (P : Profile) (marks : ℕ) (f s : List Float) (bits before after : List ℕ) (a : Receipt) where
-  pub heard-judged : T (isMode (P .mode)) → AllHeard (P .mode) f s bits → Judged P marks (understood P bits) before after a
+  pub heard-judged : AllHeard (P .mode) f s bits → Judged P marks (understood P bits) before after a
       → Judged P marks (decided P f s) before after a
   unfolding decided
-  heard-judged mode all =
-      judged-same P marks mode (understood P bits) (decided P f s)
+  heard-judged all =
+      judged-same P marks (understood P bits) (decided P f s)
       (λ g lt. ap (λ (b : ℕ). unscrambled b (scrambler P (g / slotBits (P .mode)) (g % slotBits (P .mode)))) (all g lt))
 
   -- concluding what was heard is receiving the grid
@@ -79,9 +76,7 @@ module _ (P : Profile) (marks : ℕ) (f s : List Float) (bits before after : Lis
         refused = λ ne.
             let r = c .refused (λ z. ne (whole ∙ z)) in
             (r .0 ∙ ap silence (sym whole), r .1);
-        judged = λ z.
-            let passed = right P (length before) (length f) (length s) (4096 * symbols (P .mode)) z in
-            heard-judged (ranges P (passed .range) .mode) all (c .judged (sym whole ∙ z));
+        judged = λ z. heard-judged all (c .judged (sym whole ∙ z));
       }
     where
       whole : early P (length before) (length f) (length s) (4096 * symbols (P .mode)) ≡ early P (length before) 0 0 0

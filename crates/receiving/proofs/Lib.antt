@@ -1,4 +1,3 @@
-pub mod Mask
 pub mod Judgement
 pub mod OneSymbol
 pub mod Numbers

@@ -5,15 +5,13 @@ ghost use lib.Dec.{T};
 ghost use lib.ListN.{length};
 ghost use Rattle.rules.specs.Bits.{row};
 ghost use Rattle.rules.specs.Outer.{isK};
-ghost use Rattle.rules.specs.Slots.{isMode, packetBits, slots, slotBits, symbols};
+ghost use Rattle.rules.specs.Slots.{isMode, slots, slotBits, symbols};
 ghost use Rattle.rules.specs.Profile.{inRange};
 ghost use Rattle.rules.specs.Block as rule;
 ghost use Rattle.rules.specs.Block.{packet, sentBit, SendRule, SendSymbolRule};
-ghost use Rattle.laws.specs.Holds.{Holds};
 ghost use Rattle.laws.specs.Rows.{Bits};
-ghost use Rattle.sending.specs.Steps.{codedRow, Grid};
+ghost use Rattle.sending.specs.Steps.{Grid};
 use block::early;
-use block::packet_bits;
 use block::scrambled;
 use block::slot_count;
 use block::symbol_count;
@@ -32,29 +30,6 @@ fn block_of(k: u8, data: &[u8]) -> [u8; 1952]
     block
 }
 
-// The coded bits of the block's packets, packet after packet, and zeros after them.
-fn coded_bits(mode: u8, block: [u8; 1952]) -> [u8; 48000]
-    requires { ⌜ T (isMode mode) ⌝ }
-    ensures { λ r. ⌜ Holds 0 48000 (codedRow mode (packetBits mode * 16) block) r ⌝ }
-{
-    let addresses = interleaver::addresses();
-    let places = turbo::places(mode);
-    let n = packet_bits(mode);
-    let mut bits = [0u8; 48000];
-    for p in 0..16 {
-        let from = 122 * p;
-        let at = n * p;
-        turbo::code_with(
-            &addresses,
-            &places,
-            mode,
-            &block[from..from + 122],
-            &mut bits[at..at + n],
-        );
-    }
-    bits
-}
-
 // The block's bits, scrambled, slot after slot.
 fn sent_bits(p: Profile, data: &[u8]) -> [u8; 48000]
     requires { ⌜ T (inRange p) × (length (now «data») ≡ 122 * p .k) ⌝ }
@@ -63,7 +38,7 @@ fn sent_bits(p: Profile, data: &[u8]) -> [u8; 48000]
         → row r g ≡ sentBit p (now («data» .entry)) (g / slotBits (p .mode)) (g % slotBits (p .mode))) ⌝ }
 {
     let block = block_of(p.k, data);
-    let bits = coded_bits(p.mode, block);
+    let bits = turbo::code_block(p.mode, block);
     scrambled(p, bits)
 }
 

@@ -7,12 +7,11 @@ use lib.Dec.{T, eqb, ltb, eqb→eq, ltb→lt, lt→ltb}
 use lib.Ieee.Fits.{and-i, eq→eqb}
 use Rattle.rules.specs.Bits.{pick, bitOf, byteBit}
 use Rattle.rules.specs.Packet.{checkWord, packetBit}
-use Rattle.rules.specs.Slots.{isMode, packetBits, coded}
+use Rattle.rules.specs.Slots.{packetBits, coded}
 use Rattle.rules.specs.Block.{decidedData, byteOf, checkRight, reservedRight, judged, verdict}
 use Rattle.laws.specs.Every.{every-at, every-of}
-use Rattle.packet.proofs.Bits.{data-bit, check-bit, zero-bit, packet-bit-lt, bytes-back, bits-back, word-same}
+use Rattle.packet.proofs.Bits.{data-bit, check-bit, zero-bit, packet-bit-lt, bytes-back, bits-back, word-same, check-same, reserved-same, byte-same}
 use Rattle.turbo.specs.Coded.{plainBits, sameBits}
-use Rattle.turbo.proofs.Checks.{check-same, reserved-same, byte-same}
 use Rattle.turbo.proofs.Modes.{sent-lt, decided-coded, coded-same, coded-bit}
 
 -- ---- a packet's own bits are right
@@ -80,9 +79,9 @@ none-failed true true true false p q r s = absurd s
 
 -- ---- the theorem
 
-module _ (m : ℕ) (mode : T (isMode m)) (v : ℕ → ℕ) where
+module _ (m : ℕ) (v : ℕ → ℕ) where
   pub decided-bit : T (plainBits (packetBits m) v) → (i : ℕ) → i < 994 → decidedData m v i < 2
-  decided-bit plain i lt = ltb→lt _ 2 (every-at (packetBits m) (λ k. ltb (v k) 2) plain _ (sent-lt m mode i lt))
+  decided-bit plain i lt = ltb→lt _ 2 (every-at (packetBits m) (λ k. ltb (v k) 2) plain _ (sent-lt m i lt))
 
   -- accepted bits are the coded bits of the bytes that they decide to
   pub accepted-coded : verdict m v ≡ 0
@@ -104,12 +103,12 @@ module _ (m : ℕ) (mode : T (isMode m)) (v : ℕ → ℕ) where
       same : (i : ℕ) → i < packetBits m → v i ≡ coded m (packetBit (byteOf x)) i
       same i lt =
           eqb→eq (v i) (coded m x i) (every-at (packetBits m) (λ k. eqb (v k) (coded m x k)) (passed .3) i lt)
-          ∙ sym (coded-same m mode (packetBit (byteOf x)) x back i lt)
+          ∙ sym (coded-same m (packetBit (byteOf x)) x back i lt)
 
   module _ (d : ℕ → ℕ) (sent : (i : ℕ) → i < packetBits m → v i ≡ coded m (packetBit d) i) where
     -- the data decides to the packet's own bits
     pub decided-sent : (i : ℕ) → i < 994 → decidedData m v i ≡ packetBit d i
-    decided-sent i lt = sent _ (sent-lt m mode i lt) ∙ decided-coded m mode (packetBit d) i lt
+    decided-sent i lt = sent _ (sent-lt m i lt) ∙ decided-coded m (packetBit d) i lt
 
     -- coded bits of any bytes are accepted
     pub coded-accepted : verdict m v ≡ 0
@@ -123,12 +122,12 @@ module _ (m : ℕ) (mode : T (isMode m)) (v : ℕ → ℕ) where
         plain : T (plainBits (packetBits m) v)
         plain =
             every-of (packetBits m) (λ i. ltb (v i) 2)
-            (λ i lt. lt→ltb (v i) 2 (rw (sent i lt) (coded-bit m mode (packetBit d) (λ k below. packet-bit-lt d k) i lt)))
+            (λ i lt. lt→ltb (v i) 2 (rw (sent i lt) (coded-bit m (packetBit d) (λ k below. packet-bit-lt d k) i lt)))
 
         same : T (sameBits (packetBits m) v (coded m (decidedData m v)))
         same =
             every-of (packetBits m) (λ i. eqb (v i) (coded m (decidedData m v) i))
-            (λ i lt. eq→eqb (sent i lt ∙ sym (coded-same m mode (decidedData m v) (packetBit d) decided-sent i lt)))
+            (λ i lt. eq→eqb (sent i lt ∙ sym (coded-same m (decidedData m v) (packetBit d) decided-sent i lt)))
 
     -- and decide to those bytes
     pub accepted-bytes : (j : ℕ) → j < 122 → d j < 256 → byteOf (decidedData m v) j ≡ d j

@@ -3,5 +3,6 @@ pub mod Modes
 pub mod Accepted
 pub mod Within
 pub mod Filling
-pub mod Checks
+pub mod Coding
+pub mod Weighing
 pub mod OneAnswer

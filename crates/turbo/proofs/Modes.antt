@@ -5,17 +5,17 @@ use mathlib.Core.List.{List}
 use Prim.Native.Nat.{ℕ, _+_, _*_, _/_, _%_, _<_, _≤_}
 use native.Mathlib.Nat.{mod-lt, div-add-mod, div-lt-iff-lt-mul, mul-le-mul-left}
 use native.Mathlib.Omega.{arith}
-use lib.Dec.{T, eqb}
+use lib.Dec.{eqb}
 use Rattle.rules.specs.Bits.{pick, row}
 use Rattle.rules.specs.Interleaver.{tableD, interleaved, bitInterleaved, bitDeinterleaved}
 use Rattle.rules.specs.Turbo.{half, third, codedLength, codedBit, dataPlace}
-use Rattle.rules.specs.Slots.{isMode, rate, packetBits, second, coded}
+use Rattle.rules.specs.Slots.{rate, packetBits, second, coded}
 use Rattle.rules.specs.Block.{decidedData}
+use Rattle.laws.specs.Every.{every-same}
 use Rattle.laws.specs.Filled.{upTo-below}
 use Rattle.interleaver.proofs.Interleaving.{interleaved5-lt}
 use Rattle.turbo.specs.Streams.{stream, place}
 use Rattle.turbo.specs.Coded.{Places, sameBits, sentPlace, sentFrom}
-use Rattle.turbo.proofs.Checks.{every-same}
 use Rattle.turbo.proofs.Streams.{coded-stream, place-lt, own-coded, stream-bit, stream-same}
 
 -- ---- the bit interleaver, over any number of bits that four divides
@@ -67,14 +67,17 @@ sizes true = (refl, refl, omega arith)
 sizes false = (refl, refl, omega arith)
 
 module _ (m : ℕ) where
-  whole : packetBits m ≡ 4 * (packetBits m / 4)
+  pub whole : packetBits m ≡ 4 * (packetBits m / 4)
   whole = sizes (eqb m 0) .0
 
   long : codedLength (rate m) 994 ≡ packetBits m
   long = sizes (eqb m 0) .1
 
+  pub bits-most : packetBits m ≤ 3000
+  bits-most = sizes (eqb m 0) .2
+
   -- which of the bits before the bit interleaver is sent as bit i, and where that stands in the streams
-  pub source-lt : (i : ℕ) → i < packetBits m → bitInterleaved (packetBits m) i < packetBits m
+  source-lt : (i : ℕ) → i < packetBits m → bitInterleaved (packetBits m) i < packetBits m
   source-lt = interleaved-lt (packetBits m) whole
 
   pub rate-place-lt : (n : ℕ) → n < packetBits m → place (rate m) n < 3988
@@ -83,14 +86,14 @@ module _ (m : ℕ) where
   -- what the table has
   module _ (l : List ℕ) (held : Places m l) where
     pub place-read : (i : ℕ) → i < packetBits m → row l i ≡ sentPlace m i
-    place-read i lt = held .each i (omega (arith, sizes (eqb m 0) .2)) ∙ upTo-below (sentPlace m) (λ k. 0) (packetBits m) i lt
+    place-read i lt = held .each i (omega (arith, bits-most)) ∙ upTo-below (sentPlace m) (λ k. 0) (packetBits m) i lt
 
     pub place-read-lt : (i : ℕ) → i < packetBits m → row l i < 3988
     place-read-lt i lt = rw (place-read i lt) (rate-place-lt _ (source-lt i lt))
 
 -- ---- what is sent in each mode
 
-module _ (m : ℕ) (mode : T (isMode m)) where
+module _ (m : ℕ) where
   -- where bit i of x itself is sent
   own-lt : (i : ℕ) → i < 994 → dataPlace (rate m) i < packetBits m
   own-lt i lt = rw (long m) at (own-coded (rate m) (λ k. 0) (λ k. 0) i lt .0)

@@ -3,15 +3,14 @@ use mathlib.Core.Path.{_≡_, sym, ap, _∙_}
 use mathlib.Core.Bool.{Bool, true, false}
 use mathlib.Core.List.{List}
 use Prim.Native.Nat.{ℕ, _+_, _-_, _<_, _≤_}
-use native.Mathlib.Nat.{zero-add, sub-zero}
 use native.Mathlib.Decide.{ℕ-discrete, decLt}
 use native.Mathlib.Omega.{arith}
 use lib.Dec.{ltb}
-use lib.ListN.{length, set, replicate, length-replicate, getD-replicate, List·getD-eq-default}
-use borrow.Author.Tests.{lt-ltb, le-ltb, eq-eqb, ne-eqb}
+use lib.ListN.{length, set}
+use borrow.Author.Tests.{eq-eqb, ne-eqb}
 use Rattle.rules.specs.Bits.{pick, row}
 use Rattle.laws.specs.Holds.{Holds, put, holds-as, holds-put}
-use Rattle.laws.specs.Rows.{Bits}
+use Rattle.laws.specs.Filled.{upTo, upTo-below, upTo-from}
 use Rattle.turbo.specs.Within.{within, withEnds}
 
 -- f with v at p: there, and elsewhere
@@ -22,19 +21,22 @@ put-other : (f : ℕ → ℕ) (p v k : ℕ) → (k ≡ p → ⊥) → put f p v 
 put-other f p v k ne = ap (λ (b : Bool). pick b v (f k)) (ne-eqb k p ne)
 
 module _ (a n : ℕ) (f g : ℕ → ℕ) (k : ℕ) where
+  abbrev rest : ℕ → ℕ
+  rest = upTo (a + n) (λ j. f (j - a)) g
+
   pub within-before : k < a → within a n f g k ≡ g k
   unfolding within
-  within-before h = rw (lt-ltb k a h)
+  within-before = upTo-below g rest a k
 
   pub within-after : a + n ≤ k → within a n f g k ≡ g k
   unfolding within
-  within-after h = rw (le-ltb k a (omega arith), le-ltb k (a + n) h)
+  within-after h = upTo-from g rest a k (omega arith) ∙ upTo-from (λ j. f (j - a)) g (a + n) k h
 
   pub within-in : a ≤ k → k < a + n → within a n f g k ≡ f (k - a)
   unfolding within
-  within-in h l = rw (le-ltb k a h, lt-ltb k (a + n) l)
+  within-in h l = upTo-from g rest a k h ∙ upTo-below (λ j. f (j - a)) g (a + n) k l
 
-pub within-none : (a : ℕ) (f g : ℕ → ℕ) (k : ℕ) → within a 0 f g k ≡ g k
+within-none : (a : ℕ) (f g : ℕ → ℕ) (k : ℕ) → within a 0 f g k ≡ g k
 within-none a f g k = go (decLt k a)
   where
     go : Dec (k < a) → within a 0 f g k ≡ g k
@@ -91,21 +93,13 @@ put-past a n p v f g past k = go (ℕ-discrete k p)
     go (no q) = put-other (within a n f g) p v k q ∙ within-same a n f g (put g p v) k (sym (put-other g p v k q))
 
 -- a turn that stores f i at a + i
-pub stored : (a i p v : ℕ) (f g : ℕ → ℕ) {n : ℕ} {l : List ℕ}
+stored : (a i p v : ℕ) (f g : ℕ → ℕ) {n : ℕ} {l : List ℕ}
     → p ≡ a + i
     → p < n
     → v ≡ f i
     → Holds 0 n (within a i f g) l
     → Holds 0 n (within a (i + 1) f g) (set l p v)
 stored a i p v f g here lt e h = holds-as 0 (within a (i + 1) f g) (λ k k<n. put-next a i p v f g here e k) (holds-put 0 p v lt h)
-
--- the same from the front
-pub stored-next : (i v : ℕ) (f g : ℕ → ℕ) {n : ℕ} {l : List ℕ}
-    → i < n
-    → v ≡ f i
-    → Holds 0 n (within 0 i f g) l
-    → Holds 0 n (within 0 (i + 1) f g) (set l i v)
-stored-next i v f g = stored 0 i i v f g (sym (zero-add i))
 
 -- a turn that stores f i at a + i, and h i further on, at b + i
 pub both-stored : (a b i p q u v : ℕ) (f h g : ℕ → ℕ) {n : ℕ} {l : List ℕ}
@@ -124,23 +118,10 @@ both-stored a b i p q u v f h g at-p at-q pq lt e e' held =
     ∙ within-same a (i + 1) f (put (within b i h g) q v) (within b (i + 1) h g) k (put-next b i q v h g at-q e' k))
     (holds-put 0 q v lt (stored a i p u f (within b i h g) at-p (omega arith) e held))
 
--- before the first turn, and after the last
-pub held : (g : ℕ → ℕ) (l : List ℕ) {n : ℕ} → length l ≡ n → ((k : ℕ) → k < n → g k ≡ row l k) → Holds 0 n g l
-held g l e same = record { long = e; each = λ k lt. sym (same k lt) }
-
-pub zeros : (n : ℕ) → Holds {A = ℕ} 0 n (λ k. 0) (replicate n 0)
-zeros n = record { long = length-replicate n 0; each = λ k lt. getD-replicate n k 0 0 lt }
-
-pub unfilled : (n : ℕ) (f g : ℕ → ℕ) {l : List ℕ} → Holds 0 n g l → Holds 0 n (within 0 0 f g) l
-unfilled n f g = holds-as 0 (within 0 0 f g) (λ k lt. sym (within-none 0 f g k))
-
-pub filled : (n : ℕ) (f g : ℕ → ℕ) {l : List ℕ} → Holds 0 n (within 0 n f g) l → Holds 0 n f l
-filled n f g = holds-as 0 f (λ k lt. within-in 0 n f g k (omega arith) (omega arith) ∙ ap f (sub-zero k))
-
--- a list that holds bits has bits alone
-pub bits-held : {n : ℕ} {f : ℕ → ℕ} {l : List ℕ} → ((k : ℕ) → k < n → f k < 2) → Holds 0 n f l → Bits l
-bits-held {n} {f} {l} bit h i = go (decLt i n)
-  where
-    go : Dec (i < n) → row l i < 2
-    go (yes lt) = rw (h .each i lt) (bit i lt)
-    go (no ge) = rw (List·getD-eq-default l 0 {n = i} (omega (arith, h .long))) (omega arith)
+-- before the first turn
+pub unfilled : (a b : ℕ) (f h g : ℕ → ℕ) (l : List ℕ) {n : ℕ}
+    → length l ≡ n
+    → ((k : ℕ) → k < n → row l k ≡ g k)
+    → Holds 0 n (within a 0 f (within b 0 h g)) l
+unfilled a b f h g l long same =
+    record { long = long; each = λ k lt. same k lt ∙ sym (within-none a f (within b 0 h g) k ∙ within-none b h g k) }

@@ -1,3 +1,4 @@
 pub mod Streams
 pub mod Within
 pub mod Coded
+pub mod Blocks

@@ -1,15 +1,14 @@
 -- A row of which a loop has written a part, and what the steps of encoding make.
 use mathlib.Core.Path.{_≡_}
 use Prim.Native.Nat.{ℕ, zero, suc, _+_, _-_, _<_}
-use lib.Dec.{ltb}
-use Rattle.rules.specs.Bits.{pick}
 use Rattle.rules.specs.Turbo.{feedback, parityOf, shift}
 use Rattle.rules.specs.Slots.{second}
+use Rattle.laws.specs.Filled.{upTo}
 use Rattle.turbo.specs.declared.Period.{Period}
 
 -- g, but the first n elements of f from a on
 unfoldable pub within : ℕ → ℕ → (ℕ → ℕ) → (ℕ → ℕ) → ℕ → ℕ
-within a n f g k = pick (ltb k a) (g k) (pick (ltb k (a + n)) (f (k - a)) (g k))
+within a n f g = upTo a g (upTo (a + n) (λ k. f (k - a)) g)
 
 -- g, counted from a
 abbrev pub from : (ℕ → ℕ) → ℕ → ℕ → ℕ

@@ -1,21 +1,27 @@
-// One packet's coded bits, and the judgement on decided ones. A bit is a byte that is 0 or 1.
+// One packet's coded bits, and the judgement on decided ones; a whole block's are in blocks.rt. A bit is a byte that is 0 or 1.
 ghost use mathlib.Core.Path.{_≡_};
 ghost use mathlib.Core.Bool.{_&&_};
 ghost use Prim.Native.Nat.{_+_, _≤_, _<_};
-ghost use lib.Dec.{T};
 ghost use lib.ListN.{length, replicate};
 ghost use Rattle.rules.specs.Bits.{row};
+ghost use Rattle.rules.specs.Packet.{packetBit};
 ghost use Rattle.rules.specs.Interleaver.{bitDeinterleaved};
 ghost use Rattle.rules.specs.Turbo as rule;
 ghost use Rattle.rules.specs.Turbo.{half, third};
-ghost use Rattle.rules.specs.Slots.{isMode, rate, packetBits, second};
-ghost use Rattle.rules.specs.Block.{byteOf};
+ghost use Rattle.rules.specs.Slots.{rate, packetBits, second, coded};
+ghost use Rattle.rules.specs.Block.{decidedData};
 ghost use Rattle.laws.specs.Holds.{Holds};
 ghost use Rattle.laws.specs.Rows.{Bits};
 ghost use Rattle.turbo.specs.Streams as streams;
 ghost use Rattle.turbo.specs.Streams.{stream};
 ghost use Rattle.turbo.specs.Within.{from, withData, withEnds, Puts};
 ghost use Rattle.turbo.specs.Coded.{CodingRule, JudgingRule, Addresses, Places, plainBits, sameBits, sentPlace, sentFrom};
+
+mod blocks;
+
+pub use blocks::Verdicts;
+pub use blocks::code_block;
+pub use blocks::judge_block;
 use rules::Coding;
 use rules::Judgement;
 
@@ -71,6 +77,7 @@ fn place(mode: u8, n: usize) -> usize
     }
 }
 
+// How many bits a packet has.
 fn packet_bits(mode: u8) -> usize
     ensures { λ r. ⌜ (r ≡ packetBits mode) × (2000 ≤ r) × (r ≤ 3000) ⌝ }
 {
@@ -87,7 +94,7 @@ fn sent_place(mode: u8, i: usize) -> usize
 }
 
 // The places of all that is sent for a packet, and zeros after them. They are the same for every packet.
-pub fn places(mode: u8) -> [u16; 3000]
+fn places(mode: u8) -> [u16; 3000]
     ensures { λ r. ⌜ Places mode r ⌝ }
 {
     let n = packet_bits(mode);
@@ -100,7 +107,7 @@ pub fn places(mode: u8) -> [u16; 3000]
 
 // As which bit the packet's own bit i is sent.
 fn own_place(mode: u8, i: usize) -> usize
-    requires { ⌜ T (isMode mode) × (i < 994) ⌝ }
+    requires { ⌜ i < 994 ⌝ }
     ensures { λ r. ⌜ (r ≡ bitDeinterleaved (packetBits mode) (rule.dataPlace (rate mode) i)) × (r < packetBits mode) ⌝ }
 {
     let rows = packet_bits(mode) / 4;
@@ -249,22 +256,45 @@ fn send(places: &[u16], mode: u8, all: [u8; 3988], out: &mut [u8])
     }
 }
 
+fn copy(from: &[u8], to: &mut [u8])
+    requires { ⌜ length (now from) ≡ length (now to) ⌝ }
+    ensures { λ _. ⌜ now (to .exit) ≡ now (from .entry) ⌝ }
+{
+    for i in 0..from.len() {
+        to[i] = from[i];
+    }
+}
+
 // The bits that enter the encoders, without the six tail zeros.
 fn without_tail(bits: [u8; 1000]) -> [u8; 994]
     ensures { λ r. ⌜ Holds 0 994 (row bits) r ⌝ }
 {
     let mut x = [0u8; 994];
-    let mut i = 0;
-    while i < 994 {
-        x[i] = bits[i];
-        i = i + 1;
-    }
+    copy(&bits[..994], &mut x);
     x
 }
 
+// The bits of the packet that holds these 122 bytes.
+fn bits_of(data: &[u8]) -> [u8; 1000]
+    requires { ⌜ length (now «data») ≡ 122 ⌝ }
+    ensures { λ r. ⌜ Holds 0 1000 (packetBit (row (now («data» .entry)))) r ⌝ }
+{
+    let mut bytes = [0u8; 122];
+    copy(data, &mut bytes);
+    packet::bits_of(bytes)
+}
+
 // One packet of 122 bytes, coded and interleaved; the addresses are the interleaver's, and the places the mode's.
-pub fn code_with(addresses: &[u16], places: &[u16], mode: u8, data: &[u8], out: &mut [u8]) -> Coding
-    requires { ⌜ Addresses (now addresses) × Places mode (now places) ⌝ }
+fn code_with(addresses: &[u16], places: &[u16], mode: u8, data: &[u8], out: &mut [u8])
+    requires { ⌜ Addresses (now addresses) × Places mode (now places) × (length (now «data») ≡ 122) × (length (now out) ≡ packetBits mode) ⌝ }
+    ensures { λ _. ⌜ Holds 0 (packetBits mode) (coded mode (packetBit (row (now («data» .entry))))) (now (out .exit)) ⌝ }
+{
+    let x = without_tail(bits_of(data));
+    send(places, mode, streams_of(addresses, x), out);
+}
+
+// One packet of 122 bytes, coded and interleaved.
+pub fn code(mode: u8, data: &[u8], out: &mut [u8]) -> Coding
     ensures { λ r. ⌜ CodingRule mode (now («data» .entry)) (now (out .entry)) (now (out .exit)) r ⌝ }
 {
     if mode > 1 {
@@ -276,18 +306,10 @@ pub fn code_with(addresses: &[u16], places: &[u16], mode: u8, data: &[u8], out: 
     if out.len() != packet_bits(mode) {
         return Coding::WrongLength;
     }
-    let x = without_tail(packet::bits_of(data));
-    send(places, mode, streams_of(addresses, x), out);
-    Coding::Coded
-}
-
-// One packet of 122 bytes, coded and interleaved.
-pub fn code(mode: u8, data: &[u8], out: &mut [u8]) -> Coding
-    ensures { λ r. ⌜ CodingRule mode (now («data» .entry)) (now (out .entry)) (now (out .exit)) r ⌝ }
-{
     let addresses = interleaver::addresses();
     let places = places(mode);
-    code_with(&addresses, &places, mode, data, out)
+    code_with(&addresses, &places, mode, data, out);
+    Coding::Coded
 }
 
 fn both(a: bool, b: bool) -> bool
@@ -296,13 +318,14 @@ fn both(a: bool, b: bool) -> bool
     a && b
 }
 
-// Whether no decided bit is doubtful.
-fn plain(v: &[u8]) -> bool
-    ensures { λ r. ⌜ r ≡ plainBits (length (now (v .entry))) (row (now (v .entry))) ⌝ }
+// Whether none of the first n decided bits is doubtful.
+fn plain(v: &[u8], n: usize) -> bool
+    requires { ⌜ n ≤ length (now v) ⌝ }
+    ensures { λ r. ⌜ r ≡ plainBits n (row (now (v .entry))) ⌝ }
 {
     let mut ok = true;
     let mut i = 0;
-    while i < v.len() {
+    while i < n {
         ok = both(ok, v[i] < 2);
         i = i + 1;
     }
@@ -311,7 +334,7 @@ fn plain(v: &[u8]) -> bool
 
 // Whether the decided bits are those that the streams would have sent.
 fn same(places: &[u16], mode: u8, v: &[u8], all: [u8; 3988]) -> bool
-    requires { ⌜ Places mode (now places) × (length (now v) ≡ packetBits mode) ⌝ }
+    requires { ⌜ Places mode (now places) × (packetBits mode ≤ length (now v)) ⌝ }
     ensures { λ r. ⌜ r ≡ sameBits (packetBits mode) (row (now (v .entry))) (sentFrom mode (row all)) ⌝ }
 {
     let n = packet_bits(mode);
@@ -324,18 +347,18 @@ fn same(places: &[u16], mode: u8, v: &[u8], all: [u8; 3988]) -> bool
     ok
 }
 
-// The 122 bytes of a packet's bits.
-fn bytes_of(x: [u8; 994]) -> [u8; 122]
-    requires { ⌜ Bits x ⌝ }
-    ensures { λ r. ⌜ Holds 0 122 (byteOf (row x)) r ⌝ }
+// The 994 decided bits that entered the encoders.
+fn decided(mode: u8, v: &[u8]) -> [u8; 994]
+    requires { ⌜ packetBits mode ≤ length (now v) ⌝ }
+    ensures { λ r. ⌜ Holds 0 994 (decidedData mode (row (now (v .entry)))) r ⌝ }
 {
-    let mut bytes = [0u8; 122];
-    let mut j = 0;
-    while j < 122 {
-        bytes[j] = packet::byte_of(&x, j);
-        j = j + 1;
+    let mut x = [0u8; 994];
+    let mut i = 0;
+    while i < 994 {
+        x[i] = v[own_place(mode, i)];
+        i = i + 1;
     }
-    bytes
+    x
 }
 
 fn refused(reason: u8) -> Judgement
@@ -347,24 +370,19 @@ fn refused(reason: u8) -> Judgement
     }
 }
 
-// Judges as many decided bits as a packet of the mode has; the addresses are the interleaver's, and the places the mode's.
-pub fn judge_with(addresses: &[u16], places: &[u16], mode: u8, v: &[u8]) -> Judgement
-    requires { ⌜ Addresses (now addresses) × Places mode (now places) × T (isMode mode) × (length (now v) ≡ packetBits mode) ⌝ }
+// Judges the first decided bits, as many as a packet of the mode has; the addresses are the interleaver's, and the places the mode's.
+fn judge_with(addresses: &[u16], places: &[u16], mode: u8, v: &[u8]) -> Judgement
+    requires { ⌜ Addresses (now addresses) × Places mode (now places) × (packetBits mode ≤ length (now v)) ⌝ }
     ensures { λ r. ⌜ JudgingRule mode (row (now (v .entry))) r ⌝ }
 {
-    if !plain(v) {
+    if !plain(v, packet_bits(mode)) {
         return refused(12);
     }
-    let mut x = [0u8; 994];
-    let mut i = 0;
-    while i < 994 {
-        x[i] = v[own_place(mode, i)];
-        i = i + 1;
-    }
-    if !packet::check_right(&x) {
+    let x = decided(mode, v);
+    if !packet::check_right(x) {
         return refused(13);
     }
-    if !packet::reserved_right(&x) {
+    if !packet::reserved_right(x) {
         return refused(14);
     }
     if !same(places, mode, v, streams_of(addresses, x)) {
@@ -372,16 +390,15 @@ pub fn judge_with(addresses: &[u16], places: &[u16], mode: u8, v: &[u8]) -> Judg
     }
     Judgement {
         reason: 0,
-        bytes: bytes_of(x),
+        bytes: packet::bytes_of(x),
     }
 }
 
-// Judges as many decided bits as a packet of the mode has.
-pub fn judge(mode: u8, v: &[u8]) -> Judgement
-    requires { ⌜ T (isMode mode) × (length (now v) ≡ packetBits mode) ⌝ }
-    ensures { λ r. ⌜ JudgingRule mode (row (now (v .entry))) r ⌝ }
+// Judges one packet's decided bits; those past the mode's are unused. A mode other than 0 counts as 1.
+pub fn judge(mode: u8, v: [u8; 3000]) -> Judgement
+    ensures { λ r. ⌜ JudgingRule mode (row v) r ⌝ }
 {
     let addresses = interleaver::addresses();
     let places = places(mode);
-    judge_with(&addresses, &places, mode, v)
+    judge_with(&addresses, &places, mode, &v)
 }

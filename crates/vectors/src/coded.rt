@@ -1,14 +1,18 @@
 // Whole coded packets at both rates, and the judgement on one with a flipped bit.
 ghost use mathlib.Core.Path.{_≡_};
-ghost use Prim.Native.Nat.{_<_, _≤_};
+ghost use Prim.Native.Nat.{_≤_};
 ghost use lib.ListN.{length};
+ghost use Rattle.rules.specs.Answers.{codingNumber};
 use super::print;
 use super::rows;
 use super::rows::Row;
 use rules::Coding;
 
-fn number(c: Coding) -> usize {
-    match c {
+// The paper number of an answer.
+fn number(a: Coding) -> usize
+    ensures { λ r. ⌜ r ≡ codingNumber a ⌝ }
+{
+    match a {
         Coding::Coded => 0,
         Coding::WrongMode => 4,
         Coding::WrongLength => 6,
@@ -36,34 +40,19 @@ fn both(name: &[u8], bytes: &[u8]) {
     coded(name, 1, bytes, &mut [0u8; 2000]);
 }
 
-// The reason, and the check word of the bytes.
-fn verdict(at: usize, v: &[u8])
-    requires { ⌜ length (now v) ≡ 2000 ⌝ }
-{
+// The reason, and the check word of the bytes, with one bit flipped, or none.
+fn judged(at: usize, bytes: &[u8]) {
+    let mut v = [0u8; 3000];
+    turbo::code(1, bytes, &mut v[0..2000]);
+    if at < 2000 {
+        v[at] = v[at] ^ 1;
+    }
     let a = turbo::judge(1, v);
     print::text(b"judged");
     print::decimal(at);
     print::byte(a.reason);
     print::bytes_word(&a.bytes);
     print::end();
-}
-
-// With one bit flipped, or none.
-fn flipped(at: usize, v: &mut [u8])
-    requires { ⌜ length (now v) ≡ 2000 ⌝ }
-{
-    if at < 2000 {
-        v[at] = v[at] ^ 1;
-        verdict(at, v);
-        return;
-    }
-    verdict(at, v);
-}
-
-fn judged(at: usize, bytes: &[u8]) {
-    let mut v = [0u8; 2000];
-    turbo::code(1, bytes, &mut v);
-    flipped(at, &mut v);
 }
 
 pub fn all() {

@@ -1,9 +1,6 @@
 // Words, numbers and rows on standard output; a number or a row comes after a blank. A long row is printed by its check word.
-ghost use mathlib.Core.Path.{_≡_};
-ghost use mathlib.Core.Bool.{true};
 ghost use Prim.Native.Nat.{_*_, _≤_};
 ghost use lib.ListN.{length};
-ghost use Rattle.laws.specs.Rows.{Bits};
 
 pub fn text(s: &[u8]) {
     io::write_all(1, s);
@@ -39,9 +36,7 @@ pub fn end() {
     text(b"\n");
 }
 
-pub fn all_bits(x: &[u8]) -> bool
-    ensures { λ b. ⌜ (b ≡ true → Bits (now (x .entry))) ⌝ }
-{
+fn all_bits(x: &[u8]) -> bool {
     for i in 0..x.len() {
         if x[i] > 1 {
             return false;
@@ -53,7 +48,7 @@ pub fn all_bits(x: &[u8]) -> bool
 // The check word of bits.
 pub fn word(x: &[u8]) {
     if all_bits(x) {
-        hex(packet::check_of(x, x.len()) as u32, 4);
+        hex(packet::check_of(x) as u32, 4);
     } else {
         text(b" no bits");
     }

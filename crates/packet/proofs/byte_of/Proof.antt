@@ -1,6 +1,6 @@
 -- The loop's invariant: b is the number of the first i bits.
 use mathlib.Core.Path.{_≡_, refl, ap, _∙_}
-use Prim.Native.Nat.{ℕ, _+_, _*_, _^_, _≤_, _<_, _-_}
+use Prim.Native.Nat.{ℕ, _+_, _*_, _%_, _^_, _≤_, _<_, _-_}
 use native.Mathlib.Numerals.{add-one}
 use native.Mathlib.Omega.{arith}
 use lib.Pow.{pow-mono}
@@ -10,7 +10,7 @@ use Rattle.packet.proofs.byte_of.Statement.{statement}
 use Rattle.packet.proofs.byte_of.Tie as tie
 
 abbrev Inv-loop : tie.InvT-loop
-Inv-loop x j b₀ i₀ b i = (i ≤ 8) × (b < 2 ^ i) × (b ≡ number (λ k. row x (8 * j + k)) i)
+Inv-loop x j b₀ i₀ b i = (i ≤ 8) × (b < 2 ^ i) × (b ≡ number (λ k. row x (8 * j + k) % 2) i)
 
 abbrev μ-loop : tie.MeasureT-loop
 μ-loop x j b₀ i₀ b i = 8 - i
@@ -39,9 +39,7 @@ shared-slice-read-b : tie.Need-shared-slice-read-b Inv-loop μ-loop
 shared-slice-read-b c = omega arith
 
 add-b-2 : tie.Need-add-b-2 Inv-loop μ-loop
-add-b-2 c =
-    let a = c .before .before .before in
-    omega (arith, small (c .before), a .pre .2 (8 * a .args .j + c .before .before .loop .i))
+add-b-2 c = omega (arith, small (c .before))
 
 add-i : tie.Need-add-i Inv-loop μ-loop
 add-i c = omega arith
@@ -55,8 +53,8 @@ loop-again c =
     let l = c .before .before .loop in
     let a = c .before .before .before in (
       omega arith,
-      rw (add-one (l .i)) (omega (arith, a .pre .2 (8 * a .args .j + l .i))),
-      rw (add-one (l .i)) (ap (λ (b : ℕ). b * 2 + row (a .args .x .now) (8 * a .args .j + l .i)) (l .inv .2)),
+      rw (add-one (l .i)) (omega arith),
+      rw (add-one (l .i)) (ap (λ (b : ℕ). b * 2 + row (a .args .x .now) (8 * a .args .j + l .i) % 2) (l .inv .2)),
     )
 
 returns : tie.Need-returns Inv-loop μ-loop
@@ -64,7 +62,7 @@ returns c =
     let l = c .before .loop in
     let a = c .before .before .args in
     let end : l .i ≡ 8 = omega arith in
-    l .inv .2 ∙ ap (number (λ k. row (a .x .now) (8 * a .j + k))) end ∙ number-byte (row (a .x .now)) (a .j)
+    l .inv .2 ∙ ap (number (λ k. row (a .x .now) (8 * a .j + k) % 2)) end ∙ number-byte (λ i. row (a .x .now) i % 2) (a .j)
 
 pub byte-of-spec : {M : Type 1} → statement M
 byte-of-spec =

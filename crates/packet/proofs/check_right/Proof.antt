@@ -5,8 +5,8 @@ use Prim.Native.Nat.{ℕ, _+_, _≤_, _-_}
 use native.Mathlib.Numerals.{add-one}
 use native.Mathlib.Omega.{arith}
 use lib.Dec.{eqb}
-use Rattle.rules.specs.Bits.{row, bitOf}
-use Rattle.rules.specs.Bits.{everyBelow}
+use borrow.Author.Needs.{needs}
+use Rattle.rules.specs.Bits.{row, bitOf, everyBelow}
 use Rattle.packet.proofs.check_right.Statement.{statement}
 use Rattle.packet.proofs.check_right.Tie as tie
 
@@ -19,8 +19,11 @@ Inv-loop x w ok₀ i₀ ok i = (i ≤ 16) × (ok ≡ everyBelow i (right (row x)
 abbrev μ-loop : tie.MeasureT-loop
 μ-loop x w ok₀ i₀ ok i = 16 - i
 
+slice-aggregate-check-word : tie.Need-slice-aggregate-check-word Inv-loop μ-loop
+slice-aggregate-check-word c = search needs
+
 check-word-requires : tie.Need-check-word-requires Inv-loop μ-loop
-check-word-requires c κs = (omega arith, c .before .pre .1)
+check-word-requires c κs = omega arith
 
 loop-holds : tie.Need-loop-holds Inv-loop μ-loop
 loop-holds c = (omega arith, refl)
@@ -28,8 +31,8 @@ loop-holds c = (omega arith, refl)
 add-also-same : tie.Need-add-also-same Inv-loop μ-loop
 add-also-same c = omega arith
 
-shared-slice-read-also-same : tie.Need-shared-slice-read-also-same Inv-loop μ-loop
-shared-slice-read-also-same c = omega arith
+array-read-also-same : tie.Need-array-read-also-same Inv-loop μ-loop
+array-read-also-same c = omega arith
 
 word-bit-requires : tie.Need-word-bit-requires Inv-loop μ-loop
 word-bit-requires c κs = omega arith
@@ -45,9 +48,8 @@ loop-less c = omega arith
 
 loop-again : tie.Need-loop-again Inv-loop μ-loop
 loop-again c =
-    let l = c .before .before .before .before .loop in
-    let x = row (c .before .before .before .before .before .before .before .args .x .now) in
-    let w = c .before .before .before .before .before .check-word .result in (
+    let l = c .before .before .before .loop in
+    let x = row (c .before .before .before .before .before .before .args .t1) in (
       omega arith,
       rw (add-one (l .i))
           (c .also-same .ensures ∙ ap₂ (λ (a : Bool) (b : ℕ). a && eqb (x (976 + l .i)) b) (l .inv .1) (c .before .word-bit .ensures)),
@@ -56,7 +58,7 @@ loop-again c =
 returns : tie.Need-returns Inv-loop μ-loop
 returns c =
     let l = c .before .loop in
-    let x = row (c .before .before .before .before .args .x .now) in
+    let x = row (c .before .before .before .before .args .t1) in
     let end : l .i ≡ 16 = omega arith in
     (rw end at (l .inv .1)) ∙ ap (λ (w : ℕ). everyBelow 16 (right x w)) (c .before .before .check-word .ensures)
 
@@ -66,10 +68,11 @@ check-right-spec =
     (tie.spec
     Inv-loop
     μ-loop
+    slice-aggregate-check-word
     check-word-requires
     loop-holds
     add-also-same
-    shared-slice-read-also-same
+    array-read-also-same
     word-bit-requires
     also-same-requires
     add-i

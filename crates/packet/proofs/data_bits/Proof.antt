@@ -1,12 +1,11 @@
 -- The loop's invariant: the first i bits are the packet's, and zeros follow.
 use mathlib.Core.Path.{_≡_, sym, _∙_}
-use Prim.Native.Nat.{ℕ, _≤_, _-_}
+use Prim.Native.Nat.{_≤_, _-_}
 use native.Mathlib.Omega.{arith}
-use lib.ListN.{replicate, length-replicate, getD-replicate}
 use Rattle.rules.specs.Bits.{row}
 use Rattle.rules.specs.Packet.{packetBit}
 use Rattle.laws.specs.Holds.{Holds}
-use Rattle.laws.specs.Filled.{upTo, upTo-from, holds-next}
+use Rattle.laws.specs.Filled.{upTo, holds-new, holds-next}
 use Rattle.packet.proofs.Bits.{data-bit}
 use Rattle.packet.proofs.data_bits.Statement.{statement}
 use Rattle.packet.proofs.data_bits.Tie as tie
@@ -17,15 +16,8 @@ Inv-loop «data» x₀ i₀ x i = (i ≤ 976) × Holds 0 1000 (upTo i (packetBit
 abbrev μ-loop : tie.MeasureT-loop
 μ-loop «data» x₀ i₀ x i = 976 - i
 
-zeros : (f : ℕ → ℕ) → Holds 0 1000 (upTo 0 f (λ k. 0)) (replicate 1000 0)
-zeros f =
-    record {
-      long = length-replicate {A = ℕ} 1000 0;
-      each = λ k h. getD-replicate {A = ℕ} 1000 k 0 0 h ∙ sym (upTo-from f (λ k. 0) 0 k (omega arith));
-    }
-
 loop-holds : tie.Need-loop-holds Inv-loop μ-loop
-loop-holds c = (omega arith, zeros (packetBit (row (c .before .args .«data» .now))))
+loop-holds c = (omega arith, holds-new 1000 (packetBit (row (c .before .args .«data» .now))))
 
 shared-slice-read-byte-bit : tie.Need-shared-slice-read-byte-bit Inv-loop μ-loop
 shared-slice-read-byte-bit c = omega arith

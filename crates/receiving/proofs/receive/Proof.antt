@@ -67,7 +67,7 @@ returns-2 c =
     let s = a .seconds .now in
     let j = c .before .before .judge in
     answered-judged (a .p) (a .marks) _ (decided (a .p) f s) (a .«data» .now) _ (j .result) (sym (number (e .before)) ∙ e .if1 .left)
-    (heard-judged (a .p) (a .marks) f s (h .result) (a .«data» .now) _ (j .result) (ranges (a .p) (passed e .range) .mode)
+    (heard-judged (a .p) (a .marks) f s (h .result) (a .«data» .now) _ (j .result)
     (heard-all (a .p .mode) f s (h .result) (h .ensures)) (j .ensures))
 
 pub receive-spec : {M : Type 1} → statement M

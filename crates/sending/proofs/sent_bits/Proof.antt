@@ -8,8 +8,8 @@ use Rattle.sending.proofs.sent_bits.Tie as tie
 block-of-requires : tie.Need-block-of-requires
 block-of-requires c κs = let s = c .before in (ranges (s .args .p) (s .pre .0) .k, s .pre .1)
 
-coded-bits-requires : tie.Need-coded-bits-requires
-coded-bits-requires c κs = let s = c .before .before in ranges (s .args .p) (s .pre .0) .mode
+code-block-requires : tie.Need-code-block-requires
+code-block-requires c κs = search needs
 
 scrambled-requires : tie.Need-scrambled-requires
 scrambled-requires c κs = search needs
@@ -17,10 +17,10 @@ scrambled-requires c κs = search needs
 returns : tie.Need-returns
 returns c =
     let s = c .before .before .before .before in
-    sent (s .args .p) (ranges (s .args .p) (s .pre .0) .mode) (s .args .«data» .now) (c .before .before .block-of .result)
-    (c .before .coded-bits .result) (c .scrambled .result) (c .before .before .block-of .ensures)
-    (c .before .coded-bits .ensures) (c .scrambled .ensures)
+    sent (s .args .p) (s .args .«data» .now) (c .before .before .block-of .result)
+    (c .before .code-block .result) (c .scrambled .result) (c .before .before .block-of .ensures)
+    (c .before .code-block .ensures) (c .scrambled .ensures)
 
 pub sent-bits-spec : {M : Type 1} → statement M
 sent-bits-spec =
-    tie.close (tie.spec block-of-requires coded-bits-requires scrambled-requires returns)
+    tie.close (tie.spec block-of-requires code-block-requires scrambled-requires returns)

@@ -8,7 +8,7 @@ use Rattle.rules.specs.Turbo.{parityOf, shift, entering, state, y0}
 use Rattle.laws.specs.Holds.{Holds, holds-as}
 use Rattle.turbo.specs.Streams.{stream}
 use Rattle.turbo.specs.Within.{within, from, withEnds}
-use Rattle.turbo.proofs.Within.{within-none, within-before, within-after, both-stored, held}
+use Rattle.turbo.proofs.Within.{within-before, within-after, both-stored, unfilled}
 use Rattle.turbo.proofs.Filling.{state-next, both-streams}
 use Rattle.turbo.proofs.encoded.Statement.{statement}
 use Rattle.turbo.proofs.encoded.Tie as tie
@@ -32,7 +32,7 @@ abbrev μ-loop : tie.MeasureT-loop
 loop-holds : tie.Need-loop-holds Inv-loop μ-loop
 unfolding state
 loop-holds c =
-    (omega arith, omega arith, omega arith, refl, refl, held _ _ (search needs) (λ k lt. within-none _ _ _ k ∙ within-none _ _ _ k))
+    (omega arith, omega arith, omega arith, refl, refl, unfilled _ _ _ _ _ _ (search needs) (λ k lt. refl))
 
 -- the bits that a turn reads are still those that were handed in
 first-read : (c : tie.In-loop Inv-loop μ-loop) → row (c .before .loop .s) (c .before .loop .i) ≡ row (c .before .before .args .all) (c .before .loop .i)

@@ -8,7 +8,7 @@ use Rattle.rules.specs.Bits.{row}
 use Rattle.rules.specs.Turbo.{feedback, parityOf, shift}
 use Rattle.laws.specs.Holds.{Holds}
 use Rattle.turbo.specs.Within.{within, afterZeros}
-use Rattle.turbo.proofs.Within.{within-none, both-stored, held}
+use Rattle.turbo.proofs.Within.{both-stored, unfilled}
 use Rattle.turbo.proofs.ended.Statement.{statement}
 use Rattle.turbo.proofs.ended.Tie as tie
 
@@ -34,7 +34,7 @@ abbrev μ-loop : tie.MeasureT-loop
 
 loop-holds : tie.Need-loop-holds Inv-loop μ-loop
 unfolding afterZeros
-loop-holds c = (omega arith, c .pre .1, refl, held _ _ (search needs) (λ k lt. within-none _ _ _ k ∙ within-none _ _ _ k))
+loop-holds c = (omega arith, c .pre .1, refl, unfilled _ _ _ _ _ _ (search needs) (λ k lt. refl))
 
 last-period-requires : tie.Need-last-period-requires Inv-loop μ-loop
 last-period-requires c κs = omega arith

@@ -1,16 +1,17 @@
 -- `entered` puts the two encoders' bits in place: before turn i, i of each.
 use mathlib.Core.Path.{_≡_, refl, sym, ap, _∙_}
-use Prim.Native.Nat.{_+_, _-_, _≤_}
+use Prim.Native.Nat.{ℕ, _+_, _-_, _≤_}
 use native.Mathlib.Nat.{zero-add}
 use native.Mathlib.Omega.{arith}
+use lib.ListN.{getD-replicate}
 use borrow.Author.Needs.{needs}
 use Rattle.rules.specs.Bits.{row}
 use Rattle.rules.specs.Interleaver.{tableD, interleaved}
 use Rattle.rules.specs.Slots.{second}
-use Rattle.laws.specs.Holds.{Holds, holds-as}
+use Rattle.laws.specs.Holds.{Holds}
 use Rattle.interleaver.proofs.Interleaving.{interleaved5-lt}
 use Rattle.turbo.specs.Within.{within}
-use Rattle.turbo.proofs.Within.{within-none, both-stored, zeros}
+use Rattle.turbo.proofs.Within.{both-stored, unfilled}
 use Rattle.turbo.proofs.entered.Statement.{statement}
 use Rattle.turbo.proofs.entered.Tie as tie
 
@@ -21,7 +22,7 @@ abbrev μ-loop : tie.MeasureT-loop
 μ-loop addresses x s₀ i₀ s i = 994 - i
 
 loop-holds : tie.Need-loop-holds Inv-loop μ-loop
-loop-holds c = (omega arith, holds-as 0 _ (λ k lt. sym (within-none _ _ _ k ∙ within-none _ _ _ k)) (zeros 3988))
+loop-holds c = (omega arith, unfilled _ _ _ _ _ _ (search needs) (λ k lt. getD-replicate {A = ℕ} 3988 k 0 0 lt))
 
 array-read-s : tie.Need-array-read-s Inv-loop μ-loop
 array-read-s c = omega arith

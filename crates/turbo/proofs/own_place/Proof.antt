@@ -36,7 +36,7 @@ answer-lt : (c : tie.Joined1)
     → let rows : ℕ = c .before .packet-bits .result / 4 in 4 * (c .if1 .n % rows) + c .if1 .n / rows < packetBits (c .before .before .args .mode)
 answer-lt c =
     let start = c .before .before in
-    rw (answer c) (sent-lt (start .args .mode) (start .pre .0) (start .args .i) (start .pre .1))
+    rw (answer c) (sent-lt (start .args .mode) (start .args .i) (start .pre))
 
 rem-result : tie.Need-rem-result
 rem-result c = omega arith

@@ -5,18 +5,17 @@ use Prim.Native.Nat.{ℕ, _-_, _≤_}
 use native.Mathlib.Omega.{arith}
 use borrow.Author.Needs.{needs}
 use lib.Dec.{ltb}
-use lib.ListN.{length}
 use Rattle.rules.specs.Bits.{row}
 use Rattle.turbo.specs.Coded.{plainBits}
-use Rattle.turbo.proofs.Checks.{every-next}
+use Rattle.laws.specs.Every.{every-next}
 use Rattle.turbo.proofs.plain.Statement.{statement}
 use Rattle.turbo.proofs.plain.Tie as tie
 
 abbrev Inv-loop : tie.InvT-loop
-Inv-loop v ok₀ i₀ ok i = (i ≤ length v) × (ok ≡ plainBits i (row v))
+Inv-loop v n ok₀ i₀ ok i = (i ≤ n) × (ok ≡ plainBits i (row v))
 
 abbrev μ-loop : tie.MeasureT-loop
-μ-loop v ok₀ i₀ ok i = length v - i
+μ-loop v n ok₀ i₀ ok i = n - i
 
 loop-holds : tie.Need-loop-holds Inv-loop μ-loop
 loop-holds c = (omega arith, refl)
@@ -42,7 +41,7 @@ loop-again c =
 returns : tie.Need-returns Inv-loop μ-loop
 returns c =
     let l = c .before .loop in
-    let all : l .i ≡ length (c .before .before .before .args .v .now) = omega arith in
+    let all : l .i ≡ c .before .before .before .args .n = omega arith in
     rw all at (l .inv .1)
 
 pub plain-spec : {M : Type 1} → statement M

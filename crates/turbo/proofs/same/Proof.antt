@@ -9,7 +9,7 @@ use Rattle.rules.specs.Bits.{row}
 use Rattle.rules.specs.Slots.{packetBits}
 use Rattle.turbo.specs.Coded.{sameBits, sentFrom}
 use Rattle.turbo.proofs.Modes.{place-read, place-read-lt}
-use Rattle.turbo.proofs.Checks.{every-next}
+use Rattle.laws.specs.Every.{every-next}
 use Rattle.turbo.proofs.same.Statement.{statement}
 use Rattle.turbo.proofs.same.Tie as tie
 

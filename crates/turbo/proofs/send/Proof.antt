@@ -1,20 +1,19 @@
 -- `send` takes each bit from its place: before turn i, i of them.
-use mathlib.Core.Path.{_≡_, refl, sym, ap, _∙_}
+use mathlib.Core.Path.{refl, sym, ap, _∙_}
 use Prim.Native.Nat.{_-_, _≤_}
 use native.Mathlib.Omega.{arith}
 use borrow.Author.Needs.{needs}
 use Rattle.rules.specs.Bits.{row}
 use Rattle.laws.specs.Holds.{Holds}
-use Rattle.turbo.specs.Within.{within}
+use Rattle.laws.specs.Filled.{upTo, holds-first, holds-next, holds-whole}
 use Rattle.rules.specs.Slots.{packetBits}
 use Rattle.turbo.specs.Coded.{sentFrom}
 use Rattle.turbo.proofs.Modes.{place-read, place-read-lt}
-use Rattle.turbo.proofs.Within.{stored-next, unfilled, filled, held}
 use Rattle.turbo.proofs.send.Statement.{statement}
 use Rattle.turbo.proofs.send.Tie as tie
 
 abbrev Inv-loop : tie.InvT-loop
-Inv-loop places mode out₀ all n i₀ out i = (i ≤ n) × Holds 0 (packetBits mode) (within 0 i (sentFrom mode (row all)) (row out₀)) out
+Inv-loop places mode out₀ all n i₀ out i = (i ≤ n) × Holds 0 (packetBits mode) (upTo i (sentFrom mode (row all)) (row out₀)) out
 
 abbrev μ-loop : tie.MeasureT-loop
 μ-loop places mode out₀ all n i₀ out i = n - i
@@ -23,7 +22,7 @@ packet-bits-requires : tie.Need-packet-bits-requires Inv-loop μ-loop
 packet-bits-requires c κs = search needs
 
 loop-holds : tie.Need-loop-holds Inv-loop μ-loop
-loop-holds c = (omega arith, unfilled _ _ _ (held _ _ (c .before .before .before .pre .1) (λ k lt. refl)))
+loop-holds c = (omega arith, holds-first _ _ 0 (record { long = c .before .before .before .pre .1; each = λ k lt. refl }))
 
 mul-wide : tie.Need-mul-wide Inv-loop μ-loop
 mul-wide c = omega arith
@@ -54,7 +53,7 @@ loop-again c =
     let l = c .before .before .before .loop in
     let start = c .before .before .before .before .before .before .before in (
       omega arith,
-      stored-next (l .i) _ (sentFrom (start .args .mode) (row (start .args .t3))) _ (omega arith)
+      holds-next (sentFrom (start .args .mode) (row (start .args .t3))) _ 0 (l .i) _ (omega arith)
           (ap (row (start .args .t3))
           (c .wide .ensures .0 ∙ place-read (start .args .mode) (start .args .places .now) (start .pre .0) (l .i) (omega arith)))
           (l .inv .1),
@@ -66,8 +65,7 @@ same-length c = c .before .loop .inv .1 .long ∙ sym (c .before .before .before
 returns : tie.Need-returns Inv-loop μ-loop
 returns c =
     let l = c .before .loop in
-    let all : l .i ≡ packetBits (c .before .before .before .before .before .args .mode) = omega (arith, l .inv .1 .long) in
-    filled _ _ _ (rw all at (l .inv .1))
+    holds-whole _ _ 0 (l .i) (omega (arith, l .inv .1 .long)) (l .inv .1)
 
 pub send-spec : {M : Type 1} → statement M
 send-spec =

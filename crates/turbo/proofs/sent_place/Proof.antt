@@ -3,7 +3,7 @@ use Prim.Native.Nat.{_*_, _/_, _%_, _≤_}
 use native.Mathlib.Nat.{mul-le-mul-left}
 use native.Mathlib.Omega.{arith}
 use borrow.Author.Needs.{needs}
-use Rattle.turbo.proofs.Modes.{source-lt}
+use Rattle.turbo.proofs.Modes.{whole}
 use Rattle.turbo.proofs.sent_place.Statement.{statement}
 use Rattle.turbo.proofs.sent_place.Tie as tie
 
@@ -21,9 +21,7 @@ add-place : tie.Need-add-place
 add-place c = omega (arith, below c)
 
 place-requires : tie.Need-place-requires
-place-requires c κs =
-    let start = c .before in
-    rw (c .packet-bits .ensures .0) (source-lt (start .args .mode) (start .args .i) (start .pre))
+place-requires c κs = omega (arith, below c, whole (c .before .args .mode))
 
 returns : tie.Need-returns
 returns c = rw (← c .before .packet-bits .ensures .0) (c .place .ensures)

@@ -4,8 +4,8 @@ use borrow.Author.Needs.{needs}
 use Rattle.rules.specs.Bits.{row}
 use Rattle.rules.specs.Slots.{second}
 use Rattle.laws.specs.Holds.{holds-as}
+use Rattle.laws.specs.Filled.{holds-bits}
 use Rattle.turbo.specs.Streams.{stream}
-use Rattle.turbo.proofs.Within.{bits-held}
 use Rattle.turbo.proofs.Filling.{data-bit, data-streams}
 use Rattle.turbo.proofs.streams_of.Statement.{statement}
 use Rattle.turbo.proofs.streams_of.Tie as tie
@@ -16,7 +16,7 @@ entered-requires c κs = search needs
 encoded-requires : tie.Need-encoded-requires
 encoded-requires c κs =
     let start = c .before .before in
-    bits-held (λ k lt. data-bit (row (start .args .x)) (start .pre .1) k) (c .entered .ensures)
+    holds-bits 3988 _ (c .entered .result) (λ k lt. data-bit (row (start .args .x)) (start .pre .1) k) (c .entered .ensures)
 
 returns : tie.Need-returns
 returns c =

@@ -1,54 +1,42 @@
--- `without_tail` copies 994 bits: before turn i, i of them.
-use mathlib.Core.Path.{_≡_, refl}
-use Prim.Native.Nat.{_-_, _≤_}
+-- The first 994 of the bits are copied.
+use mathlib.Core.Path.{_≡_, sym, subst}
 use native.Mathlib.Omega.{arith}
+use lib.ListN.{length, take}
+use lib.Seq.{length-take-le, getD-take}
+use borrow.Author.Needs.{needs}
 use Rattle.rules.specs.Bits.{row}
 use Rattle.laws.specs.Holds.{Holds}
-use Rattle.turbo.specs.Within.{within}
-use Rattle.turbo.proofs.Within.{stored-next, zeros, unfilled, filled}
 use Rattle.turbo.proofs.without_tail.Statement.{statement}
 use Rattle.turbo.proofs.without_tail.Tie as tie
 
-abbrev Inv-loop : tie.InvT-loop
-Inv-loop bits x₀ i₀ x i = (i ≤ 994) × Holds 0 994 (within 0 i (row bits) (λ k. 0)) x
+front : (c : tie.Start) → Holds 0 994 (row (c .args .t1)) (take 994 (c .args .t1))
+front c =
+    let long : length (c .args .t1) ≡ 1000 = search needs in
+    record { long = length-take-le 994 (c .args .t1) (omega arith); each = λ k lt. getD-take 994 (c .args .t1) k 0 lt }
 
-abbrev μ-loop : tie.MeasureT-loop
-μ-loop bits x₀ i₀ x i = 994 - i
+array-share-prefix-bits : tie.Need-array-share-prefix-bits
+array-share-prefix-bits c = search needs
 
-loop-holds : tie.Need-loop-holds Inv-loop μ-loop
-loop-holds c = (omega arith, unfilled 994 _ _ (zeros 994))
+slice-aggregate-copy : tie.Need-slice-aggregate-copy
+slice-aggregate-copy c = sym (front (c .before) .long)
 
-array-read-x : tie.Need-array-read-x Inv-loop μ-loop
-array-read-x c = omega arith
+slice-aggregate-copy-2 : tie.Need-slice-aggregate-copy-2
+slice-aggregate-copy-2 c = search needs
 
-array-write-x : tie.Need-array-write-x Inv-loop μ-loop
-array-write-x c = omega arith
+copy-requires : tie.Need-copy-requires
+copy-requires c κs = front (c .before .before) .long
 
-add-i : tie.Need-add-i Inv-loop μ-loop
-add-i c = omega arith
-
-loop-less : tie.Need-loop-less Inv-loop μ-loop
-loop-less c = omega arith
-
-loop-again : tie.Need-loop-again Inv-loop μ-loop
-loop-again c = (omega arith, stored-next (c .before .loop .i) _ _ _ (omega arith) refl (c .before .loop .inv .1))
-
-returns : tie.Need-returns Inv-loop μ-loop
+returns : tie.Need-returns
 returns c =
-    let l = c .before .loop in
-    let all : l .i ≡ 994 = omega arith in
-    filled 994 _ _ (rw all at (l .inv .1))
+    let s = c .before .before .before .before in
+    subst (Holds 0 994 (row (s .args .t1))) (sym (c .before .copy .ensures)) (front s)
 
 pub without-tail-spec : {M : Type 1} → statement M
 without-tail-spec =
     tie.close
     (tie.spec
-    Inv-loop
-    μ-loop
-    loop-holds
-    array-read-x
-    array-write-x
-    add-i
-    loop-less
-    loop-again
+    array-share-prefix-bits
+    slice-aggregate-copy
+    slice-aggregate-copy-2
+    copy-requires
     returns)

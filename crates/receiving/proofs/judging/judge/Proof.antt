@@ -9,8 +9,8 @@ use Rattle.receiving.proofs.judging.judge.Tie as tie
 scrambled-requires : tie.Need-scrambled-requires
 scrambled-requires c κs = search needs
 
-weigh-all-requires : tie.Need-weigh-all-requires
-weigh-all-requires c κs = ranges (c .before .before .args .p) (c .before .before .pre .0) .mode
+judge-block-requires : tie.Need-judge-block-requires
+judge-block-requires c κs = search needs
 
 deliver-requires : tie.Need-deliver-requires
 deliver-requires c κs =
@@ -25,10 +25,10 @@ returns c =
     let b = c .before .before .before .before .before .before in
     let plain = b .before .scrambled in
     let s = b .before .before .before in
-    scrambled-judged (s .args .p) (s .args .marks) (ranges (s .args .p) (s .pre .0) .mode) (s .args .bits) (plain .result) (plain .ensures)
-    (weighed-judged (s .args .p) (s .args .marks) (row (plain .result)) (b .weigh-all .result .block) (b .weigh-all .ensures)
+    scrambled-judged (s .args .p) (s .args .marks) (s .args .bits) (plain .result) (plain .ensures)
+    (weighed-judged (s .args .p) (s .args .marks) (row (plain .result)) (b .judge-block .result .block) (b .judge-block .ensures)
     (c .before .before .deliver .ensures))
 
 pub judge-spec : {M : Type 1} → statement M
 judge-spec =
-    tie.close (tie.spec scrambled-requires weigh-all-requires deliver-requires same-length returns)
+    tie.close (tie.spec scrambled-requires judge-block-requires deliver-requires same-length returns)

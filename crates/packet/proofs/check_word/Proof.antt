@@ -5,8 +5,8 @@ use native.Mathlib.Numerals.{add-one}
 use native.Mathlib.Omega.{arith}
 use Rattle.rules.specs.Bits.{row}
 use Rattle.rules.specs.Packet.{checkStep, checkRegister, checkWord}
-use Rattle.packet.proofs.check_of.Statement.{statement}
-use Rattle.packet.proofs.check_of.Tie as tie
+use Rattle.packet.proofs.check_word.Statement.{statement}
+use Rattle.packet.proofs.check_word.Tie as tie
 
 abbrev Inv-loop : tie.InvT-loop
 Inv-loop x n s₀ i₀ s i = (i ≤ n) × (s ≤ 65535) × (s ≡ checkRegister (row x) i)
@@ -22,7 +22,7 @@ shared-slice-read-check-step : tie.Need-shared-slice-read-check-step Inv-loop μ
 shared-slice-read-check-step c = omega arith
 
 check-step-requires : tie.Need-check-step-requires Inv-loop μ-loop
-check-step-requires c κs = c .before .before .before .before .pre .1 (c .before .before .loop .i)
+check-step-requires c κs = tt
 
 add-i : tie.Need-add-i Inv-loop μ-loop
 add-i c = omega arith
@@ -47,8 +47,8 @@ returns c =
     let end : l .i ≡ c .before .before .before .args .n = omega arith in
     ap (λ (s : ℕ). 65535 - s) (rw end at (l .inv .2))
 
-pub check-of-spec : {M : Type 1} → statement M
-check-of-spec =
+pub check-word-spec : {M : Type 1} → statement M
+check-word-spec =
     tie.close
     (tie.spec
     Inv-loop

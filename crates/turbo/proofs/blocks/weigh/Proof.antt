@@ -12,10 +12,10 @@ use Rattle.rules.specs.Bits.{pick, row}
 use Rattle.rules.specs.Block.{reason, verdict, decidedData, byteOf}
 use Rattle.rules.specs.declared.Judgement.{Judgement}
 use Rattle.laws.specs.Holds.{Holds, holds-as}
 use Rattle.turbo.specs.Coded.{JudgingRule}
-use Rattle.receiving.specs.Steps.{keptByte, Weighed}
-use Rattle.receiving.proofs.judging.weigh.Statement.{statement}
-use Rattle.receiving.proofs.judging.weigh.Tie as tie
+use Rattle.turbo.specs.Blocks.{keptByte, Weighed}
+use Rattle.turbo.proofs.blocks.weigh.Statement.{statement}
+use Rattle.turbo.proofs.blocks.weigh.Tie as tie
 
 module _ (m mark : ℕ) (v : ℕ → ℕ) where
   marked-reason : mark ≡ 1 → reason m mark v ≡ 11

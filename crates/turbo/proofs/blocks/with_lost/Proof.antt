@@ -4,8 +4,8 @@ use Prim.Native.Nat.{ℕ, suc, _≤_, _^_}
 use lib.Pow.{pow-mono}
 use borrow.Author.Needs.{needs}
 use borrow.Author.Tests.{eq-eqb, ne-eqb}
-use Rattle.receiving.proofs.judging.with_lost.Statement.{statement}
-use Rattle.receiving.proofs.judging.with_lost.Tie as tie
+use Rattle.turbo.proofs.blocks.with_lost.Statement.{statement}
+use Rattle.turbo.proofs.blocks.with_lost.Tie as tie
 
 returns : tie.Need-returns
 returns c = rw (eq-eqb _ _ (c .if1 .taken)) (omega arith)

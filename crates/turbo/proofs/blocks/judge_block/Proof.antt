@@ -8,10 +8,10 @@ use Rattle.rules.specs.Bits.{row}
 use Rattle.rules.specs.Slots.{packetBits}
 use Rattle.rules.specs.Block.{packetPart}
 use Rattle.laws.specs.Parts.{part, part-within, part-long, part-at}
-use Rattle.receiving.specs.Steps.{WeighedTo}
-use Rattle.receiving.proofs.Judgement.{weighed-none, weighed-lt, weighed-next}
-use Rattle.receiving.proofs.judging.weigh_all.Statement.{statement}
-use Rattle.receiving.proofs.judging.weigh_all.Tie as tie
+use Rattle.turbo.specs.Blocks.{WeighedTo}
+use Rattle.turbo.proofs.Weighing.{weighed-none, weighed-lt, weighed-next}
+use Rattle.turbo.proofs.blocks.judge_block.Statement.{statement}
+use Rattle.turbo.proofs.blocks.judge_block.Tie as tie
 
 abbrev Inv-loop : tie.InvT-loop
 Inv-loop mode marks bits addresses places n lost₀ reasons₀ block₀ p₀ lost reasons block p = (p ≤ 16) × WeighedTo p mode marks (row bits) lost reasons block
@@ -101,8 +101,7 @@ weigh-requires c κs =
     let s = start (i .before .before) in (
       places .before .addresses .ensures,
       places .places .ensures,
-      s .pre,
-      part-long at (at + n .result) (s .args .t3) (omega arith) (place i) ∙ omega arith,
+      omega (arith, part-long at (at + n .result) (s .args .t3) (omega arith) (place i)),
     )
 
 mul-to : tie.Need-mul-to Inv-loop μ-loop
@@ -157,7 +156,7 @@ loop-again c =
     let w = rw (b .before .before .before .before .before .before .marked .ensures) at (b .before .before .before .weigh .ensures) in (
       omega arith,
       weighed-next (s .args .mode) (s .args .marks) (l .p) (row (s .args .t3)) (row (part at (at + n .result) (s .args .t3)))
-          (b .before .before .before .weigh .result) (b .before .with-lost .result) (122 * l .p + 122) (c .before .copy .last .1 .0) (s .pre)
+          (b .before .before .before .weigh .result) (b .before .with-lost .result) (122 * l .p + 122) (c .before .copy .last .1 .0)
           (omega arith) (own i) w (b .before .with-lost .ensures) refl (c .before .copy .ensures) (l .inv .1),
     )
 
@@ -167,8 +166,8 @@ returns c =
     let end : l .p ≡ 16 = omega arith in
     rw end at (l .inv .1)
 
-pub weigh-all-spec : {M : Type 1} → statement M
-weigh-all-spec =
+pub judge-block-spec : {M : Type 1} → statement M
+judge-block-spec =
     tie.close
     (tie.spec
     Inv-loop

@@ -1,14 +1,19 @@
--- What the steps of receiving answer: a block unscrambled, one packet's judgement, and all of them.
+-- What coding and judging the 16 packets of a block answer.
 use mathlib.Core.Path.{_≡_}
 use mathlib.Core.List.{List}
-use Prim.Native.Nat.{ℕ, _*_, _/_, _%_}
+use Prim.Native.Nat.{ℕ, _+_, _*_, _/_, _%_}
 use lib.Dec.{eqb}
-use Rattle.rules.specs.Bits.{pick}
+use Rattle.rules.specs.Bits.{pick, row}
 use Rattle.rules.specs.Outer.{marked}
+use Rattle.rules.specs.Slots.{blockBit}
 use Rattle.rules.specs.Block.{packetPart, decidedData, byteOf, reason, lostMask}
 use Rattle.rules.specs.declared.Judgement.{Judgement}
 use Rattle.laws.specs.Holds.{Holds}
 use Rattle.laws.specs.Filled.{upTo}
+
+-- the first n coded bits of a block, and zeros after them
+abbrev pub codedRow : ℕ → ℕ → List ℕ → ℕ → ℕ
+codedRow m n block = upTo n (blockBit m (λ p j. row block (122 * p + j))) (λ g. 0)
 
 -- byte j of a packet that is accepted, zero of a lost one
 abbrev pub keptByte : ℕ → ℕ → (ℕ → ℕ) → ℕ → ℕ

@@ -1,15 +1,15 @@
--- `sending::coded_bits` meets its contract. The loop's invariant: the packets before p are coded.
-use mathlib.Core.Path.{_≡_, refl, ap₂, subst}
+-- `code_block` meets its contract. The loop's invariant: the packets before p are coded.
+use mathlib.Core.Path.{_≡_, refl, ap₂, subst, _∙_}
 use lib.ListN.{length}
 use Prim.Native.Nat.{ℕ, _+_, _*_, _-_, _≤_}
 use native.Mathlib.Omega.{arith}
 use borrow.Author.Needs.{needs}
 use Rattle.laws.specs.Holds.{Holds}
-use Rattle.laws.specs.Parts.{part-within}
-use Rattle.sending.specs.Steps.{codedRow}
-use Rattle.sending.proofs.Coding.{coded-none, coded-turn}
-use Rattle.sending.proofs.coded_bits.Statement.{statement}
-use Rattle.sending.proofs.coded_bits.Tie as tie
+use Rattle.laws.specs.Parts.{part-within, part-long}
+use Rattle.turbo.specs.Blocks.{codedRow}
+use Rattle.turbo.proofs.Coding.{coded-none, coded-turn}
+use Rattle.turbo.proofs.blocks.code_block.Statement.{statement}
+use Rattle.turbo.proofs.blocks.code_block.Tie as tie
 
 abbrev Inv-loop : tie.InvT-loop
 Inv-loop mode block addresses places n bits₀ p₀ bits p = (p ≤ 16) × Holds 0 48000 (codedRow mode (n * p) block) bits
@@ -80,8 +80,15 @@ part-bits-end c = omega (arith, room (c .before .before .before .before), c .bef
 
 code-with-requires : tie.Need-code-with-requires Inv-loop μ-loop
 code-with-requires c κs =
-    let places = c .before .before .before .before .before .before .before .before in
-    (places .before .addresses .ensures, places .places .ensures)
+    let i = c .before .before .before .before .before in
+    let l = i .before .loop in
+    let places = i .before .before .before in
+    let n : ℕ = i .before .before .packet-bits .result in (
+      places .before .addresses .ensures,
+      places .places .ensures,
+      part-long (122 * l .p) _ (start (i .before .before) .args .t2) (omega arith) (omega (arith, bytes i)) ∙ omega arith,
+      part-long (n * l .p) _ (l .bits) (omega arith) (omega (arith, room i, l .inv .1 .long)) ∙ omega arith,
+    )
 
 add-p : tie.Need-add-p Inv-loop μ-loop
 add-p c = omega arith
@@ -97,7 +104,7 @@ loop-again c =
     let a = start s .args in
     let r = c .before .code-with in (
       omega arith,
-      coded-turn (a .mode) (s .packet-bits .result) (start s .pre) (s .packet-bits .ensures .0) (a .t2) (l .bits) _ (r .result) (l .p) _ _
+      coded-turn (a .mode) (s .packet-bits .result) (s .packet-bits .ensures .0) (a .t2) (l .bits) _ (l .p) _ _
           (bytes w) (omega arith) (w .loop-test .taken) refl refl (r .ensures) (l .inv .1),
     )
 
@@ -109,8 +116,8 @@ returns c =
     subst (λ (n : ℕ). Holds 0 48000 (codedRow (a .mode) n (a .t2)) (c .before .loop .bits))
     (ap₂ _*_ (s .packet-bits .ensures .0) all) (c .before .loop .inv .1)
 
-pub coded-bits-spec : {M : Type 1} → statement M
-coded-bits-spec =
+pub code-block-spec : {M : Type 1} → statement M
+code-block-spec =
     tie.close
     (tie.spec
     Inv-loop
