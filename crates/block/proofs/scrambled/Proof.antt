@@ -1,14 +1,12 @@
 -- `block::scrambled` meets its contract. The loop's invariant: the slots before t are scrambled.
 use mathlib.Core.Path.{_≡_, refl, subst}
-use Prim.Native.Nat.{ℕ, _+_, _*_, _-_, _≤_}
+use Prim.Native.Nat.{ℕ, _*_, _-_, _≤_}
 use native.Mathlib.Omega.{arith}
 use Rattle.rules.specs.Bits.{row}
 use Rattle.rules.specs.Slots.{slots}
 use Rattle.laws.specs.Holds.{Holds}
 use Rattle.laws.specs.Filled.{holds-first}
-use Rattle.laws.specs.Parts.{part-long}
 use Rattle.block.specs.Steps.{scrambledRow}
-use Rattle.block.proofs.Ranges.{ranges}
 use Rattle.block.proofs.Scrambling.{scrambled-turn}
 use Rattle.block.proofs.scrambled.Statement.{statement}
 use Rattle.block.proofs.scrambled.Tie as tie
@@ -59,11 +57,7 @@ part-out-end : tie.Need-part-out-end Inv-loop μ-loop
 part-out-end c = omega (arith, c .before .loop .inv .1 .long)
 
 scramble-requires : tie.Need-scramble-requires Inv-loop μ-loop
-scramble-requires c κs =
-    let s = c .before .before .before .before .before .before in
-    let l = c .before .before .loop in
-    let long = part-long (1000 * l .t) (1000 * l .t + 1000) (l .out) (omega arith) (omega (arith, l .inv .1 .long)) in
-    (ranges (s .args .p) (s .pre) .seeds (l .t) (omega arith), omega arith)
+scramble-requires c κs = tt
 
 add-t : tie.Need-add-t Inv-loop μ-loop
 add-t c = omega arith
