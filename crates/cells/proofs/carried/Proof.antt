@@ -1,11 +1,19 @@
--- `cells::carried` meets its contract: what a cell carries goes by the place that it belongs to, which is one of an interlace's 500.
+-- `cells::carried` meets its contract: what a cell carries goes by the place that it belongs to, which is one of an interlace's 500;
+-- a symbol after the grid's last carries nothing.
 use mathlib.Core.Path.{sym, _∙_, ap}
+use native.Mathlib.Omega.{arith}
 use borrow.Author.Needs.{needs}
 use Rattle.rules.specs.Cells.{carriedAt, carried}
 use Rattle.cells.specs.Spot.{belonging}
-use Rattle.cells.proofs.Inverse.{cell-belongs}
+use Rattle.cells.proofs.Inverse.{cell-belongs, carried-past}
 use Rattle.cells.proofs.carried.Statement.{statement}
 use Rattle.cells.proofs.carried.Tie as tie
+
+symbol-count-requires : tie.Need-symbol-count-requires
+symbol-count-requires c κs = search needs
+
+returns : tie.Need-returns
+returns c = let a = c .before .before .args in sym (carried-past (a .mode) (a .symbol) (a .c) (omega arith))
 
 spot-of-requires : tie.Need-spot-of-requires
 spot-of-requires c κs = search needs
@@ -19,24 +27,32 @@ enum-known-k c = search needs
 carried-at-requires : tie.Need-carried-at-requires
 carried-at-requires c κs =
     let k = c .before .k .given in
-    let w = cell-belongs (c .before .before .before .before .args .c) (k .0 .0) (k .0 .1 .0)
+    let w = cell-belongs (c .before .before .before .before .before .before .args .c) (k .0 .0) (k .0 .1 .0)
     (sym (c .before .before .before .spot-of .ensures) ∙ ap belonging (k .1)) in
-    (c .before .before .before .before .pre .1, w .0, w .1)
-
-returns : tie.Need-returns
-unfolding carried
-returns c =
-    let a = c .before .before .before .args in
-    ap (carriedAt (a .mode) (a .symbol)) (sym (ap belonging (c .enum-told .given .1)) ∙ c .before .before .spot-of .ensures)
+    (omega arith, w .0, w .1)
 
 returns-2 : tie.Need-returns-2
 unfolding carried
 returns-2 c =
     let a = c .before .before .before .before .before .args in
+    ap (carriedAt (a .mode) (a .symbol)) (sym (ap belonging (c .enum-told .given .1)) ∙ c .before .before .spot-of .ensures)
+
+returns-3 : tie.Need-returns-3
+unfolding carried
+returns-3 c =
+    let a = c .before .before .before .before .before .before .before .args in
     c .carried-at .ensures
     ∙ ap (carriedAt (a .mode) (a .symbol)) (sym (ap belonging (c .before .before .k .given .1)) ∙ c .before .before .before .before .spot-of .ensures)
 
 pub carried-spec : {M : Type 1} → statement M
 carried-spec =
     tie.close
-    (tie.spec spot-of-requires enum-told enum-known-k carried-at-requires returns returns-2)
+    (tie.spec
+    symbol-count-requires
+    returns
+    spot-of-requires
+    enum-told
+    enum-known-k
+    carried-at-requires
+    returns-2
+    returns-3)

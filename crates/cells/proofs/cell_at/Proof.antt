@@ -50,7 +50,7 @@ shared-slice-read-point-of-2 : tie.Need-shared-slice-read-point-of-2
 shared-slice-read-point-of-2 c = omega (arith, inside (c .before .before))
 
 point-of-requires : tie.Need-point-of-requires
-point-of-requires c κs = let b = c .before .before .before .before .before .before .before .pre .3 in (b _, b _)
+point-of-requires c κs = tt
 
 next : (t i : ℕ) → 1000 * t + 2 * i + 1 ≡ 1000 * t + (2 * i + 1)
 next t i = omega arith
