@@ -1,12 +1,16 @@
 -- What it tells that a symbol can be written or read.
-use mathlib.Core.Path.{_≡_, sym, subst}
+use mathlib.Core.Path.{_≡_, sym, _∙_, subst}
 use mathlib.Core.Bool.{Bool, true, _&&_}
+use mathlib.Core.List.{List}
 use Prim.Native.Nat.{ℕ, _*_, _<_}
 use lib.Dec.{T, eqb, ltb, eqb→eq, ltb→lt}
+use lib.Ieee.{Float}
 use lib.Ieee.Fits.{and-l, and-r}
+use lib.ListN.{length}
 use borrow.Author.Tests.{lt-ltb, eq-eqb}
 use Rattle.rules.specs.Slots.{slots, slotBits, symbols}
-use Rattle.cells.specs.Symbol.{fitting}
+use Rattle.laws.specs.Holds.{Holds}
+use Rattle.cells.specs.Symbol.{fitting, Written, WriteRule, decidedIn, ReadRule}
 
 module _ (m symbol bits firsts seconds : ℕ) where
   pub record Fits : Type 0 where
@@ -36,3 +40,16 @@ module _ (m symbol bits firsts seconds : ℕ) where
         lt-ltb symbol (symbols m) (h .in-grid),
         eq-eqb bits (slotBits m * slots m) (h .bits-long),
       )
+
+-- what fits is written and read
+pub write-done : {m : ℕ} {level : Float} {bits : List ℕ} {symbol : ℕ} {firsts seconds firsts' seconds' : List Float} {r : Bool}
+    → WriteRule m level bits symbol firsts seconds firsts' seconds' r
+    → Fits m symbol (length bits) (length firsts) (length seconds)
+    → Written m level bits symbol firsts' seconds'
+write-done w h = w .done (w .answer ∙ fit _ _ _ _ _ h)
+
+pub read-done : {m symbol : ℕ} {firsts seconds : List Float} {before after : List ℕ} {r : Bool}
+    → ReadRule m symbol firsts seconds before after r
+    → Fits m symbol (length before) (length firsts) (length seconds)
+    → Holds 0 (slotBits m * slots m) (decidedIn m symbol firsts seconds before) after
+read-done w h = w .done (w .answer ∙ fit _ _ _ _ _ h)
