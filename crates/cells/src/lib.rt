@@ -1,6 +1,7 @@
 // Points, cells and decisions; one symbol's cells written from a block's bits, and read into its decided bits.
 ghost use mathlib.Core.Path.{_≡_};
 ghost use Prim.Native.Nat.{_+_, _*_, _<_, _≤_};
+ghost use lib.Dec.{ltb};
 ghost use lib.ListN.{length, getD};
 ghost use Rattle.rules.specs.Slots.{slots, slotBits, symbols};
 ghost use Rattle.rules.specs.Points as points;
@@ -76,11 +77,11 @@ fn slot_count(mode: u8) -> usize
     32
 }
 
-// How many symbols a grid has.
-fn symbol_count(mode: u8) -> usize
-    ensures { λ r. ⌜ (r ≡ symbols mode) × (r < 4096) ⌝ }
+// Whether a symbol is one of the grid.
+fn in_grid(mode: u8, symbol: usize) -> bool
+    ensures { λ r. ⌜ r ≡ ltb symbol (symbols mode) ⌝ }
 {
-    (slot_count(mode) + 6) / 7
+    symbol < (slot_count(mode) + 6) / 7
 }
 
 // The place of a point in its interlace, and the point at a place.
@@ -154,7 +155,7 @@ fn carried_at(mode: u8, symbol: usize, k: usize, place: usize) -> Carried
 pub fn carried(mode: u8, symbol: usize, c: usize) -> Carried
     ensures { λ r. ⌜ r ≡ rule.carried mode symbol c ⌝ }
 {
-    if symbol >= symbol_count(mode) {
+    if !in_grid(mode, symbol) {
         return Carried::Nothing;
     }
     match spot_of(c) {
@@ -200,7 +201,7 @@ fn fitting(mode: u8, symbol: usize, bits: usize, firsts: usize, seconds: usize) 
     if seconds != 4096 {
         return false;
     }
-    if symbol >= symbol_count(mode) {
+    if !in_grid(mode, symbol) {
         return false;
     }
     bits == 1000 * slot_count(mode)

@@ -3,17 +3,23 @@
 use mathlib.Core.Path.{sym, _∙_, ap}
 use native.Mathlib.Omega.{arith}
 use borrow.Author.Needs.{needs}
+use borrow.Author.Tests.{not-true, not-false, ltb-true, ltb-false}
+use Rattle.rules.specs.Slots.{symbols}
 use Rattle.rules.specs.Cells.{carriedAt, carried}
 use Rattle.cells.specs.Spot.{belonging}
+use Rattle.cells.proofs.Heard.{slots-lt}
 use Rattle.cells.proofs.Inverse.{cell-belongs, carried-past}
 use Rattle.cells.proofs.carried.Statement.{statement}
 use Rattle.cells.proofs.carried.Tie as tie
 
-symbol-count-requires : tie.Need-symbol-count-requires
-symbol-count-requires c κs = search needs
+in-grid-requires : tie.Need-in-grid-requires
+in-grid-requires c κs = search needs
 
 returns : tie.Need-returns
-returns c = let a = c .before .before .args in sym (carried-past (a .mode) (a .symbol) (a .c) (omega arith))
+returns c =
+    let a = c .before .before .args in
+    let past = ltb-false (a .symbol) (symbols (a .mode)) (sym (c .before .in-grid .ensures) ∙ not-true _ (c .if1 .taken)) in
+    sym (carried-past (a .mode) (a .symbol) (a .c) past)
 
 spot-of-requires : tie.Need-spot-of-requires
 spot-of-requires c κs = search needs
@@ -29,7 +35,10 @@ carried-at-requires c κs =
     let k = c .before .k .given in
     let w = cell-belongs (c .before .before .before .before .before .before .args .c) (k .0 .0) (k .0 .1 .0)
     (sym (c .before .before .before .spot-of .ensures) ∙ ap belonging (k .1)) in
-    (omega arith, w .0, w .1)
+    let e = c .before .before .before .before in
+    let a = e .before .before .args in
+    let inside = ltb-true (a .symbol) (symbols (a .mode)) (sym (e .before .in-grid .ensures) ∙ not-false _ (e .if1 .left)) in
+    (omega (arith, slots-lt (a .mode)), w .0, w .1)
 
 returns-2 : tie.Need-returns-2
 unfolding carried
@@ -48,7 +57,7 @@ pub carried-spec : {M : Type 1} → statement M
 carried-spec =
     tie.close
     (tie.spec
-    symbol-count-requires
+    in-grid-requires
     returns
     spot-of-requires
     enum-told

@@ -1,25 +1,29 @@
 -- `cells::fitting` meets its contract, a test for each part.
-use borrow.Author.Needs.{needs}
-use borrow.Author.Tests.{eq-eqb, ne-eqb, lt-ltb, le-ltb}
+use mathlib.Core.Path.{sym, _∙_}
 use native.Mathlib.Omega.{arith}
-use Rattle.rules.specs.Slots.{symbols}
+use borrow.Author.Needs.{needs}
+use borrow.Author.Tests.{eq-eqb, ne-eqb, not-true, not-false}
 use Rattle.cells.proofs.fitting.Statement.{statement}
 use Rattle.cells.proofs.fitting.Tie as tie
 
 returns : tie.Need-returns
-returns c = rw (ne-eqb _ _ (c .if1 .taken))
+returns c = rw (ne-eqb (c .before .args .firsts) 4096 (omega arith))
 
 returns-2 : tie.Need-returns-2
-returns-2 c = rw (eq-eqb _ _ (c .before .if1 .left), ne-eqb _ _ (c .if2 .taken))
+returns-2 c =
+    let a = c .before .before .args in rw (eq-eqb (a .firsts) 4096 (omega arith), ne-eqb (a .seconds) 4096 (omega arith))
 
-symbol-count-requires : tie.Need-symbol-count-requires
-symbol-count-requires c κs = search needs
+in-grid-requires : tie.Need-in-grid-requires
+in-grid-requires c κs = search needs
 
 returns-3 : tie.Need-returns-3
 returns-3 c =
-    let e = c .before .before in
-    let a = e .before .before .args in
-    rw (eq-eqb _ _ (e .before .if1 .left), eq-eqb _ _ (e .if2 .left), le-ltb (a .symbol) (symbols (a .mode)) (omega arith))
+    let a = c .before .before .before .before .args in
+    rw (
+      eq-eqb (a .firsts) 4096 (omega arith),
+      eq-eqb (a .seconds) 4096 (omega arith),
+      sym (c .before .in-grid .ensures) ∙ not-true _ (c .if3 .taken),
+    )
 
 slot-count-requires : tie.Need-slot-count-requires
 slot-count-requires c κs = search needs
@@ -29,13 +33,12 @@ mul-result c = search needs
 
 returns-4 : tie.Need-returns-4
 returns-4 c =
-    let e = c .before .before .before in
-    let a = e .before .before .args in
+    let a = c .before .before .before .before .before .args in
     rw (
       c .slot-count .ensures .0,
-      eq-eqb _ _ (e .before .if1 .left),
-      eq-eqb _ _ (e .if2 .left),
-      lt-ltb (a .symbol) (symbols (a .mode)) (omega arith),
+      eq-eqb (a .firsts) 4096 (omega arith),
+      eq-eqb (a .seconds) 4096 (omega arith),
+      sym (c .before .before .in-grid .ensures) ∙ not-false _ (c .before .if3 .left),
     )
 
 pub fitting-spec : {M : Type 1} → statement M
@@ -44,7 +47,7 @@ fitting-spec =
     (tie.spec
     returns
     returns-2
-    symbol-count-requires
+    in-grid-requires
     returns-3
     slot-count-requires
     mul-result
