@@ -58,13 +58,11 @@ pub fn block_bits(mode: u8) -> usize
 pub fn scrambled(p: Profile, bits: [u8; 48000]) -> [u8; 48000]
     ensures { λ r. ⌜ Holds 0 48000 (scrambledRow (p .seeds) (p .masks) (slotBits (p .mode) * slots (p .mode)) (row bits)) r ⌝ }
 {
-    let seeds = p.seeds;
-    let masks = p.masks;
     let n = slot_count(p.mode);
     let mut out = bits;
     for t in 0..n {
         let at = 1000 * t;
-        slots::scramble(seeds[t], masks[1 + t % 7], &mut out[at..at + 1000]);
+        slots::scramble(p.seeds[t], p.masks[1 + t % 7], &mut out[at..at + 1000]);
     }
     out
 }
