@@ -151,25 +151,33 @@ fn carried_at(mode: u8, symbol: usize, k: usize, place: usize) -> Carried
     Carried::Nothing
 }
 
-// What cell c of a symbol carries; those of a symbol after the grid's last carry nothing.
-pub fn carried(mode: u8, symbol: usize, c: usize) -> Carried
+// What cell c of a symbol carries.
+fn carried_in(mode: u8, symbol: usize, c: usize) -> Carried
+    requires { ⌜ symbol < 4096 ⌝ }
     ensures { λ r. ⌜ r ≡ rule.carried mode symbol c ⌝ }
 {
-    if !in_grid(mode, symbol) {
-        return Carried::Nothing;
-    }
     match spot_of(c) {
         Spot::Outside => Carried::Nothing,
         Spot::Place(k, place) => carried_at(mode, symbol, k, place),
     }
 }
 
+// The same for any symbol: those after the grid's last carry nothing.
+pub fn carried(mode: u8, symbol: usize, c: usize) -> Carried
+    ensures { λ r. ⌜ r ≡ rule.carried mode symbol c ⌝ }
+{
+    if in_grid(mode, symbol) {
+        return carried_in(mode, symbol, c);
+    }
+    Carried::Nothing
+}
+
 // The cell of a symbol whose block has these scrambled bits.
 fn cell_at(mode: u8, level: f32, bits: &[u8], symbol: usize, c: usize) -> Cell
-    requires { ⌜ length (now bits) ≡ slotBits mode * slots mode ⌝ }
+    requires { ⌜ (symbol < 4096) × (length (now bits) ≡ slotBits mode * slots mode) ⌝ }
     ensures { λ r. ⌜ r ≡ symbolCell mode level (now (bits .entry)) symbol c ⌝ }
 {
-    match carried(mode, symbol, c) {
+    match carried_in(mode, symbol, c) {
         Carried::Nothing => Cell::Silent,
         Carried::PointOf(t, i) => {
             let at = 1000 * t + 2 * i;

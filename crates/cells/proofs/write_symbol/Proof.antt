@@ -10,6 +10,7 @@ use Rattle.rules.specs.Points.{zeroPart, firstPart, secondPart}
 use Rattle.cells.specs.Symbol.{symbolCell}
 use Rattle.laws.specs.Holds.{Holds}
 use Rattle.laws.specs.Filled.{upTo, holds-first, holds-next, holds-whole}
+use Rattle.cells.proofs.Heard.{slots-lt}
 use Rattle.cells.proofs.Fits.{Fits, fits}
 use Rattle.cells.proofs.write_symbol.Statement.{statement}
 use Rattle.cells.proofs.write_symbol.Tie as tie
@@ -45,7 +46,9 @@ loop-holds c = (
 )
 
 cell-at-requires : tie.Need-cell-at-requires Inv-loop μ-loop
-cell-at-requires c κs = passed (c .before .before) .bits-long
+cell-at-requires c κs =
+    let e = c .before .before in
+    (omega (arith, passed e .in-grid, slots-lt (e .before .before .before .before .before .args .mode)), passed e .bits-long)
 
 parts-of-requires : tie.Need-parts-of-requires Inv-loop μ-loop
 parts-of-requires c κs = search needs
