@@ -5,3 +5,4 @@ pub mod Filled
 pub mod Lists
 pub mod Bytes
 pub mod Parts
+pub mod Run

@@ -3,17 +3,15 @@ use mathlib.Core.Path.{_≡_, _∙_, ap}
 use mathlib.Core.List.{List}
 use Prim.Native.Nat.{ℕ, _+_, _*_, _/_, _%_, _<_}
 use native.Mathlib.Nat.{mod-lt, div-lt-iff-lt-mul}
-use native.Mathlib.Decide.{decLt}
 use native.Mathlib.Omega.{arith}
-use lib.Dec.{T, lit<}
+use lib.Dec.{T}
 use Rattle.rules.specs.Bits.{row}
 use Rattle.rules.specs.Packet.{packetBit}
 use Rattle.rules.specs.Slots.{isMode, packetBits, slots, slotBits, blockBit}
 use Rattle.rules.specs.Block.{packet, scrambler, sentBit, unscrambled}
 use Rattle.rules.specs.declared.Profile.{Profile}
 use Rattle.laws.specs.Holds.{Holds}
-use Rattle.laws.specs.Rows.{Bits}
-use Rattle.laws.specs.Filled.{upTo-below, upTo-from, holds-bits}
+use Rattle.laws.specs.Filled.{upTo-below}
 use Rattle.packet.proofs.Bits.{packet-same, packet-bit-lt}
 use Rattle.turbo.proofs.Modes.{coded-same, coded-bit}
 use Rattle.slots.proofs.Twice.{unscrambled-bit}

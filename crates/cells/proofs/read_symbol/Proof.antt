@@ -1,5 +1,5 @@
 -- `cells::read_symbol` meets its contract. The loop's invariant: the bits of the symbol's slots before t are read, and the others stand as before.
-use mathlib.Core.Path.{_≡_, refl, sym, _∙_}
+use mathlib.Core.Path.{refl, sym, _∙_}
 use mathlib.Core.Bool.{true≢false}
 use Prim.Native.Nat.{_+_, _-_, _*_, _≤_}
 use native.Mathlib.Omega.{arith}

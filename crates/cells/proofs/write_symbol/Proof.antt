@@ -1,5 +1,5 @@
 -- `cells::write_symbol` meets its contract. The loop's invariant: each of the two lists has the parts of the cells before c.
-use mathlib.Core.Path.{_≡_, refl, sym, _∙_, ap}
+use mathlib.Core.Path.{refl, sym, _∙_, ap}
 use mathlib.Core.Bool.{true≢false}
 use Prim.Native.Nat.{_-_, _≤_}
 use native.Mathlib.Omega.{arith}
