@@ -44,13 +44,13 @@ Inv-loop seed mask bits₀ out n i₀ bits i = Part seed mask bits₀ i bits × 
 abbrev μ-loop : tie.MeasureT-loop
 μ-loop seed mask bits₀ out n i₀ bits i = n - i
 
+outputs-requires : tie.Need-outputs-requires Inv-loop μ-loop
+outputs-requires c κs = omega arith
+
 -- element i of what is added
 put : (c : tie.After-outputs Inv-loop μ-loop) (i : ℕ) → i < 1000
     → (let a = c .before .before .args in row (c .outputs .result) i ≡ scrambling (a .seed) (a .mask) i)
 put c i lt = let a = c .before .before .args in c .outputs .ensures .each i lt ∙ scrambling-low (a .seed) (a .mask) i
-
-outputs-requires : tie.Need-outputs-requires Inv-loop μ-loop
-outputs-requires c κs = omega arith
 
 slot-part-requires : tie.Need-slot-part-requires Inv-loop μ-loop
 slot-part-requires c κs = tt
