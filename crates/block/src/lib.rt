@@ -1,10 +1,8 @@
 // What sending and receiving share: the numbers that come first, the sizes of a mode, and a whole block's scrambling.
 ghost use mathlib.Core.Path.{_≡_};
 ghost use Prim.Native.Nat.{_*_, _≤_};
-ghost use lib.Dec.{T};
 ghost use Rattle.rules.specs.Bits.{row};
 ghost use Rattle.rules.specs.Slots.{packetBits, slots, slotBits, symbols};
-ghost use Rattle.rules.specs.Profile.{inRange};
 ghost use Rattle.rules.specs.Block as rule;
 ghost use Rattle.laws.specs.Holds.{Holds};
 ghost use Rattle.block.specs.Steps.{scrambledRow};
@@ -56,18 +54,15 @@ pub fn block_bits(mode: u8) -> usize
     1000 * slot_count(mode)
 }
 
-// The bits of each slot, scrambled; of scrambled bits, the scrambling taken off again.
+// The bits of each slot, scrambled; of scrambled bits, the scrambling taken off again. Those past the block's stay.
 pub fn scrambled(p: Profile, bits: [u8; 48000]) -> [u8; 48000]
-    requires { ⌜ T (inRange p) ⌝ }
     ensures { λ r. ⌜ Holds 0 48000 (scrambledRow (p .seeds) (p .masks) (slotBits (p .mode) * slots (p .mode)) (row bits)) r ⌝ }
 {
-    let seeds = p.seeds;
-    let masks = p.masks;
     let n = slot_count(p.mode);
     let mut out = bits;
     for t in 0..n {
         let at = 1000 * t;
-        slots::scramble(seeds[t], masks[1 + t % 7], &mut out[at..at + 1000]);
+        slots::scramble(p.seeds[t], p.masks[1 + t % 7], &mut out[at..at + 1000]);
     }
     out
 }

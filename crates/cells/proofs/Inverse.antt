@@ -7,7 +7,7 @@ use native.Mathlib.Omega.{arith}
 use lib.Dec.{eqb}
 use borrow.Author.Tests.{lt-ltb, le-ltb, le-leb, lt-leb, eq-eqb, ne-eqb}
 use Rattle.rules.specs.Bits.{pick}
-use Rattle.rules.specs.Slots.{slots, symbolOf, slotNumber}
+use Rattle.rules.specs.Slots.{slots, symbols, symbolOf, slotNumber}
 use Rattle.rules.specs.Cells.{placeOf, pointAt, interlaceOf, slotOf, cellOf, pointCell}
 use Rattle.rules.specs.Cells.{Belongs, outside, place, belongs, carriedBy, carriedAt, carried}
 use Rattle.rules.specs.declared.Carried.{Carried}
@@ -205,6 +205,19 @@ cell-carried m y c t i e = go (belongs c) refl e
           ap₂ cellOf (ap₂ interlaceOf (w .0) (w .1) ∙ interlace-slot y k (a .0) (b .0))
               (ap placeOf (sym (b .2)) ∙ point-place j (a .1)) ∙ a .2,
         )
+
+-- the symbols after the grid's last carry nothing
+pub carried-past : (m y c : ℕ) → symbols m ≤ y → carried m y c ≡ Nothing
+unfolding carried
+carried-past m y c h = go (belongs c)
+  where
+    past : (s i : ℕ) → Dec (s ≡ 0) → served m y s i ≡ Nothing
+    past s i (yes z) = served-none m y s i z
+    past s i (no z) = served-past m y s i z (omega arith)
+
+    go : (b : Belongs) → carriedAt m y b ≡ Nothing
+    go outside = refl
+    go (place k i) = past (slotOf y k) (pointAt i) (ℕ-discrete (slotOf y k) 0)
 
 -- two points of one symbol never share a cell
 pub points-apart : (m t u i j : ℕ)

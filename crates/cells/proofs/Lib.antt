@@ -1,3 +1,4 @@
 pub mod Inverse
 pub mod Deciding
 pub mod Heard
+pub mod Fits

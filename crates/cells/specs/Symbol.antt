@@ -1,11 +1,13 @@
 -- One symbol's cells from a block's bits, and a block's decided bits from one symbol's cells.
-use mathlib.Core.Bool.{_&&_}
+use mathlib.Core.Path.{_≡_}
+use mathlib.Core.Bool.{Bool, true, false, _&&_}
 use mathlib.Core.List.{List}
 use Prim.Native.Nat.{ℕ, _+_, _*_, _/_, _%_, min}
 use lib.Dec.{eqb, leb, ltb}
 use lib.Ieee.{Float}
+use lib.ListN.{length}
 use Rattle.rules.specs.Bits.{pick, row}
-use Rattle.rules.specs.Slots.{slots, slotBits, symbolOf}
+use Rattle.rules.specs.Slots.{slots, slotBits, symbols, symbolOf}
 use Rattle.rules.specs.Points.{zeroPart, firstPart, secondPart, decide}
 use Rattle.rules.specs.Cells.{carried, pointCell}
 use Rattle.rules.specs.Block.{cellFor, partOf}
@@ -24,6 +26,17 @@ pub record Written (m : ℕ) (level : Float) (bits : List ℕ) (symbol : ℕ) (f
   pub firsts-are : Holds zeroPart 4096 (λ c. firstPart (symbolCell m level bits symbol c)) firsts
   pub seconds-are : Holds zeroPart 4096 (λ c. secondPart (symbolCell m level bits symbol c)) seconds
 
+-- whether a symbol can be written or read: two lists of 4096 cells, a symbol of the grid, and as many bits as the block has
+abbrev pub fitting : ℕ → ℕ → ℕ → ℕ → ℕ → Bool
+fitting m symbol bits firsts seconds =
+    eqb firsts 4096 && (eqb seconds 4096 && (ltb symbol (symbols m) && eqb bits (slotBits m * slots m)))
+
+-- what writing a symbol answers, and what the lists then hold
+pub record WriteRule (m : ℕ) (level : Float) (bits : List ℕ) (symbol : ℕ) (firsts seconds firsts' seconds' : List Float) (r : Bool) : Type 0 where
+  pub answer : r ≡ fitting m symbol (length bits) (length firsts) (length seconds)
+  pub done : r ≡ true → Written m level bits symbol firsts' seconds'
+  pub kept : r ≡ false → (firsts' ≡ firsts) × (seconds' ≡ seconds)
+
 -- one past the last block slot of a symbol: the last symbol may have fewer than 7 slots
 abbrev pub slotsEnd : ℕ → ℕ → ℕ
 slotsEnd m symbol = min (7 * symbol + 7) (slots m)
@@ -41,3 +54,9 @@ readIn m from to firsts seconds before g = pick (leb from g && ltb g to) (heardI
 abbrev pub decidedIn : ℕ → ℕ → List Float → List Float → List ℕ → ℕ → ℕ
 decidedIn m symbol firsts seconds before g =
     pick (eqb (symbolOf (g / slotBits m)) symbol) (heardIn m firsts seconds g) (row before g)
+
+-- what reading a symbol answers, and what the block's bits then are
+pub record ReadRule (m symbol : ℕ) (firsts seconds : List Float) (before after : List ℕ) (r : Bool) : Type 0 where
+  pub answer : r ≡ fitting m symbol (length before) (length firsts) (length seconds)
+  pub done : r ≡ true → Holds 0 (slotBits m * slots m) (decidedIn m symbol firsts seconds before) after
+  pub kept : r ≡ false → after ≡ before

@@ -1,16 +1,16 @@
 // Points, cells and decisions; one symbol's cells written from a block's bits, and read into its decided bits.
 ghost use mathlib.Core.Path.{_≡_};
 ghost use Prim.Native.Nat.{_+_, _*_, _<_, _≤_};
-ghost use lib.Dec.{T};
+ghost use lib.Dec.{ltb};
 ghost use lib.ListN.{length, getD};
-ghost use Rattle.rules.specs.Slots.{isMode, slots, slotBits, symbols};
+ghost use Rattle.rules.specs.Slots.{slots, slotBits, symbols};
 ghost use Rattle.rules.specs.Points as points;
 ghost use Rattle.rules.specs.Points.{zeroPart, pointOf, firstPart, secondPart};
 ghost use Rattle.rules.specs.Cells as rule;
 ghost use Rattle.laws.specs.Holds.{Holds};
-ghost use Rattle.laws.specs.Rows.{Bits};
 ghost use Rattle.cells.specs.Spot.{belonging};
-ghost use Rattle.cells.specs.Symbol.{symbolCell, Written, slotsEnd, readIn, decidedIn};
+ghost use Rattle.cells.specs.Symbol as symbolRule;
+ghost use Rattle.cells.specs.Symbol.{symbolCell, WriteRule, slotsEnd, readIn, ReadRule};
 use rules::Carried;
 use rules::Cell;
 use rules::Point;
@@ -38,7 +38,6 @@ fn part(level: f32, bit: u8) -> f32
 }
 
 pub fn point_of(level: f32, s0: u8, s1: u8) -> Point
-    requires { ⌜ (s0 < 2) × (s1 < 2) ⌝ }
     ensures { λ r. ⌜ r ≡ pointOf level s0 s1 ⌝ }
 {
     Point {
@@ -76,6 +75,13 @@ fn slot_count(mode: u8) -> usize
         return 48;
     }
     32
+}
+
+// Whether a symbol is one of the grid.
+fn in_grid(mode: u8, symbol: usize) -> bool
+    ensures { λ r. ⌜ r ≡ ltb symbol (symbols mode) ⌝ }
+{
+    symbol < (slot_count(mode) + 6) / 7
 }
 
 // The place of a point in its interlace, and the point at a place.
@@ -146,8 +152,8 @@ fn carried_at(mode: u8, symbol: usize, k: usize, place: usize) -> Carried
 }
 
 // What cell c of a symbol carries.
-pub fn carried(mode: u8, symbol: usize, c: usize) -> Carried
-    requires { ⌜ T (isMode mode) × (symbol < 4096) ⌝ }
+fn carried_in(mode: u8, symbol: usize, c: usize) -> Carried
+    requires { ⌜ symbol < 4096 ⌝ }
     ensures { λ r. ⌜ r ≡ rule.carried mode symbol c ⌝ }
 {
     match spot_of(c) {
@@ -156,12 +162,22 @@ pub fn carried(mode: u8, symbol: usize, c: usize) -> Carried
     }
 }
 
+// The same for any symbol: those after the grid's last carry nothing.
+pub fn carried(mode: u8, symbol: usize, c: usize) -> Carried
+    ensures { λ r. ⌜ r ≡ rule.carried mode symbol c ⌝ }
+{
+    if in_grid(mode, symbol) {
+        return carried_in(mode, symbol, c);
+    }
+    Carried::Nothing
+}
+
 // The cell of a symbol whose block has these scrambled bits.
-pub fn cell_at(mode: u8, level: f32, bits: &[u8], symbol: usize, c: usize) -> Cell
-    requires { ⌜ T (isMode mode) × (symbol < 4096) × (length (now bits) ≡ slotBits mode * slots mode) × Bits (now bits) ⌝ }
+fn cell_at(mode: u8, level: f32, bits: &[u8], symbol: usize, c: usize) -> Cell
+    requires { ⌜ (symbol < 4096) × (length (now bits) ≡ slotBits mode * slots mode) ⌝ }
     ensures { λ r. ⌜ r ≡ symbolCell mode level (now (bits .entry)) symbol c ⌝ }
 {
-    match carried(mode, symbol, c) {
+    match carried_in(mode, symbol, c) {
         Carried::Nothing => Cell::Silent,
         Carried::PointOf(t, i) => {
             let at = 1000 * t + 2 * i;
@@ -183,7 +199,23 @@ fn parts_of(cell: Cell) -> Point
     }
 }
 
-// One symbol's 4096 cells, in rising order.
+// Whether a symbol can be written or read: lists of 4096 cells, a symbol of the grid, and as many bits as the block has.
+fn fitting(mode: u8, symbol: usize, bits: usize, firsts: usize, seconds: usize) -> bool
+    ensures { λ r. ⌜ r ≡ symbolRule.fitting mode symbol bits firsts seconds ⌝ }
+{
+    if firsts != 4096 {
+        return false;
+    }
+    if seconds != 4096 {
+        return false;
+    }
+    if !in_grid(mode, symbol) {
+        return false;
+    }
+    bits == 1000 * slot_count(mode)
+}
+
+// One symbol's 4096 cells, in rising order. Answers whether they were written.
 pub fn write_symbol(
     mode: u8,
     level: f32,
@@ -191,17 +223,20 @@ pub fn write_symbol(
     symbol: usize,
     firsts: &mut [f32],
     seconds: &mut [f32],
-)
-    requires { ⌜ T (isMode mode) × (symbol < 4096) × (length (now bits) ≡ slotBits mode * slots mode) × Bits (now bits)
-        × (length (now firsts) ≡ 4096) × (length (now seconds) ≡ 4096) ⌝ }
-    ensures { λ _. ⌜ Written mode level (now (bits .entry)) symbol (now (firsts .exit)) (now (seconds .exit)) ⌝ }
+) -> bool
+    ensures { λ r. ⌜ WriteRule mode level (now (bits .entry)) symbol
+        (now (firsts .entry)) (now (seconds .entry)) (now (firsts .exit)) (now (seconds .exit)) r ⌝ }
 {
+    if !fitting(mode, symbol, bits.len(), firsts.len(), seconds.len()) {
+        return false;
+    }
     for c in 0..4096 {
         let cell = cell_at(mode, level, bits, symbol, c);
         let parts = parts_of(cell);
         firsts[c] = parts.first;
         seconds[c] = parts.second;
     }
+    true
 }
 
 // The cell of a place of interlace k.
@@ -238,7 +273,7 @@ fn point_in(firsts: &[f32], seconds: &[f32], c: usize) -> Point
 
 // The decisions of block slot t's 500 points, from its symbol's cells.
 fn read_slot(mode: u8, t: usize, firsts: &[f32], seconds: &[f32], decided: &mut [u8])
-    requires { ⌜ T (isMode mode) × (t < slots mode) × (length (now firsts) ≡ 4096) × (length (now seconds) ≡ 4096)
+    requires { ⌜ (t < slots mode) × (length (now firsts) ≡ 4096) × (length (now seconds) ≡ 4096)
         × (length (now decided) ≡ slotBits mode * slots mode) ⌝ }
     ensures { λ _. ⌜ Holds 0 (slotBits mode * slots mode)
         (readIn mode (slotBits mode * t) (slotBits mode * (t + 1)) (now (firsts .entry)) (now (seconds .entry)) (now (decided .entry)))
@@ -265,15 +300,22 @@ fn slots_end(mode: u8, symbol: usize) -> usize
     n
 }
 
-// The decisions of one symbol's own cells, put to their places among the block's bits; the other bits stay.
-pub fn read_symbol(mode: u8, symbol: usize, firsts: &[f32], seconds: &[f32], decided: &mut [u8])
-    requires { ⌜ T (isMode mode) × (symbol < symbols mode) × (length (now firsts) ≡ 4096) × (length (now seconds) ≡ 4096)
-        × (length (now decided) ≡ slotBits mode * slots mode) ⌝ }
-    ensures { λ _. ⌜ Holds 0 (slotBits mode * slots mode)
-        (decidedIn mode symbol (now (firsts .entry)) (now (seconds .entry)) (now (decided .entry))) (now (decided .exit)) ⌝ }
+// The decisions of one symbol's own cells, put to their places among the block's bits; the other bits stay. Answers whether they were read.
+pub fn read_symbol(
+    mode: u8,
+    symbol: usize,
+    firsts: &[f32],
+    seconds: &[f32],
+    decided: &mut [u8],
+) -> bool
+    ensures { λ r. ⌜ ReadRule mode symbol (now (firsts .entry)) (now (seconds .entry)) (now (decided .entry)) (now (decided .exit)) r ⌝ }
 {
+    if !fitting(mode, symbol, decided.len(), firsts.len(), seconds.len()) {
+        return false;
+    }
     let end = slots_end(mode, symbol);
     for t in 7 * symbol..end {
         read_slot(mode, t, firsts, seconds, decided);
     }
+    true
 }

@@ -6,3 +6,4 @@ pub mod Lists
 pub mod Bytes
 pub mod Parts
 pub mod Mask
+pub mod Run

@@ -1,4 +1,3 @@
-pub mod Run
 pub mod Tests
 pub mod Values
 pub mod Walk

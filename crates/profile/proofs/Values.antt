@@ -10,7 +10,7 @@ use lib.Seq.{drop-cons, drop-drop, take-all, sets}
 use Rattle.rules.specs.Bits.{row}
 use Rattle.rules.specs.Profile.{number, words, wordBytes, allBytes}
 use Rattle.profile.proofs.Words.{words-length}
-use Rattle.profile.proofs.Run.{Run, run-start, run-more, run-done, sets-all}
+use Rattle.laws.specs.Run.{Run, run-start, run-more, run-done, sets-all}
 
 -- ---- one number
 

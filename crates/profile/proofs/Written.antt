@@ -13,7 +13,7 @@ use Rattle.profile.specs.Fields.{field, many}
 use Rattle.rules.specs.Profile.{Shape}
 use Rattle.profile.proofs.Words.{bytes-length}
 use Rattle.profile.proofs.Entries.{slots-most}
-use Rattle.profile.proofs.Run.{Run, run-start, run-more, run-done, sets-front}
+use Rattle.laws.specs.Run.{Run, run-start, run-more, run-done, sets-front}
 use Rattle.profile.proofs.Walk.{fields-at, tag-at}
 
 -- ---- lengths

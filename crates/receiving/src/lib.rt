@@ -1,10 +1,9 @@
 // Receiving a block: whole, or symbol by symbol.
 ghost use mathlib.Core.Path.{_≡_};
 ghost use Prim.Native.Nat.{_*_, _<_};
-ghost use lib.Dec.{T};
 ghost use lib.ListN.{length};
 ghost use Rattle.rules.specs.Bits.{row};
-ghost use Rattle.rules.specs.Slots.{isMode, slotBits, slots, symbols};
+ghost use Rattle.rules.specs.Slots.{slotBits, slots, symbols};
 ghost use Rattle.rules.specs.Block as rule;
 ghost use Rattle.rules.specs.Block.{ReceiveRule, HearRule, ConcludeRule};
 ghost use Rattle.laws.specs.Filled.{upTo};
@@ -26,7 +25,7 @@ pub struct Hearing {
     pub bits: [u8; 48000],
 }
 
-// The decisions of one symbol's cells, put to their places among the block's bits; the others stay.
+// The decisions of one symbol's cells, put to their places among the block's bits; the others stay. The symbol is one of the grid, so it is not refused.
 fn with_symbol(
     mode: u8,
     symbol: usize,
@@ -34,7 +33,7 @@ fn with_symbol(
     seconds: &[f32],
     bits: [u8; 48000],
 ) -> [u8; 48000]
-    requires { ⌜ T (isMode mode) × (symbol < symbols mode) × (length (now firsts) ≡ 4096) × (length (now seconds) ≡ 4096) ⌝ }
+    requires { ⌜ (symbol < symbols mode) × (length (now firsts) ≡ 4096) × (length (now seconds) ≡ 4096) ⌝ }
     ensures { λ r. ⌜ Holds 0 48000 (upTo (slotBits mode * slots mode) (decidedIn mode symbol (now (firsts .entry)) (now (seconds .entry)) bits) (row bits)) r ⌝ }
 {
     let mut all = bits;
@@ -73,7 +72,7 @@ pub fn hear(
 
 // Every symbol of a whole grid, one after the other.
 fn heard(mode: u8, firsts: &[f32], seconds: &[f32]) -> [u8; 48000]
-    requires { ⌜ T (isMode mode) × (length (now firsts) ≡ 4096 * symbols mode) × (length (now seconds) ≡ 4096 * symbols mode) ⌝ }
+    requires { ⌜ (length (now firsts) ≡ 4096 * symbols mode) × (length (now seconds) ≡ 4096 * symbols mode) ⌝ }
     ensures { λ r. ⌜ HeardTo mode (symbols mode) (now (firsts .entry)) (now (seconds .entry)) r ⌝ }
 {
     let n = symbol_count(mode);

@@ -2,11 +2,9 @@
 use mathlib.Core.Path.{_≡_, refl, _∙_, ap, ap₂}
 use mathlib.Core.List.{List}
 use Prim.Native.Nat.{ℕ, _+_, _*_, _/_, _%_, _<_}
-use native.Mathlib.Decide.{decLt}
 use native.Mathlib.Omega.{arith}
-use lib.Dec.{lit<}
 use lib.Ieee.{Float}
-use lib.ListN.{length, take, List·getD-eq-default}
+use lib.ListN.{length, take}
 use lib.Seq.{length-take-le, getD-take}
 use Rattle.rules.specs.Bits.{row}
 use Rattle.rules.specs.Slots.{slots, symbols}
@@ -17,7 +15,6 @@ use Rattle.rules.specs.declared.Profile.{Profile}
 use Rattle.rules.specs.declared.Carried.{Carried}
 use Rattle.rules.specs.declared.Carried.the-variants.{Nothing, PointOf}
 use Rattle.rules.specs.declared.Cell.the-variants.{Carries}
-use Rattle.laws.specs.Rows.{Bits}
 use Rattle.cells.specs.Symbol.{slotBit, symbolCell, Written}
 use Rattle.cells.proofs.Inverse.{cell-carried}
 use Rattle.laws.specs.Parts.{part-number, part-place}
@@ -33,22 +30,11 @@ module _ (P : Profile) (d : List ℕ) where
 
   pub record Front (l : List ℕ) : Type 0 where
     pub long : length l ≡ 1000 * slots m
-    pub bits : Bits l
     pub sent : SentRow P d l
 
-  pub front : (n : ℕ) (l : List ℕ) → n ≡ 1000 * slots m → length l ≡ 48000 → Bits l → SentRow P d l → Front (take n l)
-  front n l e long bits sent =
-      record { long = cut ∙ e; bits = at; sent = λ g lt. getD-take n l g 0 (omega arith) ∙ sent g lt }
-    where
-      cut : length (take n l) ≡ n
-      cut = length-take-le n l (omega (arith, whole-slots m))
-
-      at : Bits (take n l)
-      at i = go (decLt i n)
-        where
-          go : Dec (i < n) → row (take n l) i < 2
-          go (yes lt) = rw (getD-take n l i 0 lt) (bits i)
-          go (no ge) = rw (List·getD-eq-default (take n l) 0 {n = i} (omega (arith, cut))) (lit< tt)
+  pub front : (n : ℕ) (l : List ℕ) → n ≡ 1000 * slots m → length l ≡ 48000 → SentRow P d l → Front (take n l)
+  front n l e long sent =
+      record { long = length-take-le n l (omega (arith, whole-slots m)) ∙ e; sent = λ g lt. getD-take n l g 0 (omega arith) ∙ sent g lt }
 
   -- ---- a cell has the bits of a point of the block
 

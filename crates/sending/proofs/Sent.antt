@@ -3,17 +3,14 @@ use mathlib.Core.Path.{_≡_, _∙_, ap}
 use mathlib.Core.List.{List}
 use Prim.Native.Nat.{ℕ, _+_, _*_, _/_, _%_, _<_}
 use native.Mathlib.Nat.{mod-lt, div-lt-iff-lt-mul}
-use native.Mathlib.Decide.{decLt}
 use native.Mathlib.Omega.{arith}
-use lib.Dec.{lit<}
 use Rattle.rules.specs.Bits.{row}
 use Rattle.rules.specs.Packet.{packetBit}
 use Rattle.rules.specs.Slots.{packetBits, slots, slotBits, blockBit}
 use Rattle.rules.specs.Block.{packet, scrambler, sentBit, unscrambled}
 use Rattle.rules.specs.declared.Profile.{Profile}
 use Rattle.laws.specs.Holds.{Holds}
-use Rattle.laws.specs.Rows.{Bits}
-use Rattle.laws.specs.Filled.{upTo-below, upTo-from, holds-bits}
+use Rattle.laws.specs.Filled.{upTo-below}
 use Rattle.packet.proofs.Bits.{packet-same, packet-bit-lt}
 use Rattle.turbo.specs.Blocks.{codedRow}
 use Rattle.turbo.proofs.Modes.{coded-same, coded-bit}
@@ -61,25 +58,5 @@ module _ (P : Profile) (d block bits out : List ℕ)
       ap (λ (x : ℕ). unscrambled x (scrambler P (g / 1000) (g % 1000))) (plain-bit g lt) ∙ unscrambled-bit (b g) _ (b-lt g)
       ∙ ap (λ (i : ℕ). (b i + scrambler P (g / 1000) (g % 1000)) % 2) place
 
-  sent-lt : (t i : ℕ) → sentBit P d t i < 2
-  unfolding sentBit
-  sent-lt t i = mod-lt _ (lit< tt)
-
-  sent-row : SentRow P d out
+  pub sent-row : SentRow P d out
   sent-row g lt = made .each g (omega (arith, whole-slots m)) ∙ upTo-below added (row bits) (1000 * slots m) g lt ∙ added-is g lt
-
-  sent-bits : Bits out
-  sent-bits = holds-bits 48000 _ out at made
-    where
-      at : (g : ℕ) → g < 48000 → scrambledRow (P .seeds) (P .masks) (1000 * slots m) (row bits) g < 2
-      at g lt = go (decLt g (1000 * slots m))
-        where
-          go : Dec (g < 1000 * slots m) → scrambledRow (P .seeds) (P .masks) (1000 * slots m) (row bits) g < 2
-          go (yes in-slot) = rw (upTo-below added (row bits) (1000 * slots m) g in-slot ∙ added-is g in-slot) (sent-lt (g / 1000) (g % 1000))
-          go (no past) =
-              rw (upTo-from added (row bits) (1000 * slots m) g (omega arith) ∙ plain .each g lt
-              ∙ upTo-from (blockBit m (λ p j. row block (122 * p + j))) (λ i. 0) (packetBits m * 16) g (omega (arith, whole-slots m)))
-              (lit< tt)
-
-  pub sent : Bits out × SentRow P d out
-  sent = (sent-bits, sent-row)

@@ -9,7 +9,6 @@ ghost use Rattle.rules.specs.Slots.{isMode, slots, slotBits, symbols};
 ghost use Rattle.rules.specs.Profile.{inRange};
 ghost use Rattle.rules.specs.Block as rule;
 ghost use Rattle.rules.specs.Block.{packet, sentBit, SendRule, SendSymbolRule};
-ghost use Rattle.laws.specs.Rows.{Bits};
 ghost use Rattle.sending.specs.Steps.{Grid};
 use block::early;
 use block::scrambled;
@@ -33,8 +32,7 @@ fn block_of(k: u8, data: &[u8]) -> [u8; 1952]
 // The block's bits, scrambled, slot after slot.
 fn sent_bits(p: Profile, data: &[u8]) -> [u8; 48000]
     requires { ⌜ T (inRange p) × (length (now «data») ≡ 122 * p .k) ⌝ }
-    ensures { λ r. ⌜ Bits r
-        × ((g : ℕ) → g < slotBits (p .mode) * slots (p .mode)
+    ensures { λ r. ⌜ ((g : ℕ) → g < slotBits (p .mode) * slots (p .mode)
         → row r g ≡ sentBit p (now («data» .entry)) (g / slotBits (p .mode)) (g % slotBits (p .mode))) ⌝ }
 {
     let block = block_of(p.k, data);
@@ -42,9 +40,9 @@ fn sent_bits(p: Profile, data: &[u8]) -> [u8; 48000]
     scrambled(p, bits)
 }
 
-// All symbols of the block that has these bits.
+// All symbols of the block that has these bits; each is one of the grid, so none is refused.
 fn write_grid(mode: u8, level: f32, bits: &[u8], firsts: &mut [f32], seconds: &mut [f32])
-    requires { ⌜ T (isMode mode) × (length (now bits) ≡ slotBits mode * slots mode) × Bits (now bits)
+    requires { ⌜ (length (now bits) ≡ slotBits mode * slots mode)
         × (length (now firsts) ≡ 4096 * symbols mode) × (length (now seconds) ≡ 4096 * symbols mode) ⌝ }
     ensures { λ _. ⌜ Grid mode level (now (bits .entry)) (now (firsts .exit)) (now (seconds .exit)) ⌝ }
 {

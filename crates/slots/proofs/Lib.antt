@@ -1,2 +1,3 @@
 pub mod Twice
 pub mod Recurrence
+pub mod Seed

@@ -1,6 +1,6 @@
 // Scrambling of a slot's bits. A bit is a byte that is 0 or 1; 2 is a doubtful one.
 ghost use mathlib.Core.Path.{_≡_};
-ghost use Prim.Native.Nat.{_<_, _≤_, _%_, _^_};
+ghost use Prim.Native.Nat.{_<_, _%_, _^_, min};
 ghost use lib.ListN.{length};
 ghost use Rattle.rules.specs.Bits.{row};
 ghost use Rattle.rules.specs.Slots.{scramblerStep, both, scrambling};
@@ -73,13 +73,25 @@ fn added(bit: u8, s: u8) -> u8
     (bit % 2 + s) % 2
 }
 
-// Adds the scrambler's output to the bits, at most a slot's, in place; a doubtful one stays doubtful. Done twice, it gives the bits back.
-pub fn scramble(seed: u32, mask: u32, bits: &mut [u8])
-    requires { ⌜ (seed < 2 ^ 20) × (length (now bits) ≤ 1000) ⌝ }
-    ensures { λ _. ⌜ Holds 0 (length (now (bits .entry))) (λ i. unscrambled (row (now (bits .entry)) i) (scrambling seed mask i)) (now (bits .exit)) ⌝ }
+// How many of n bits are a slot's: 1000 at the most.
+fn slot_part(n: usize) -> usize
+    ensures { λ r. ⌜ r ≡ min n 1000 ⌝ }
 {
-    let out = outputs(seed, mask);
-    for i in 0..bits.len() {
+    if n < 1000 {
+        return n;
+    }
+    1000
+}
+
+// Adds the scrambler's output to a slot's bits, in place; a doubtful one stays doubtful, and what lies behind the slot stays as it was. Done twice,
+// it gives the bits back. Of a seed only the lowest 20 bits count.
+pub fn scramble(seed: u32, mask: u32, bits: &mut [u8])
+    ensures { λ _. ⌜ Holds 0 (length (now (bits .entry)))
+        (upTo 1000 (λ i. unscrambled (row (now (bits .entry)) i) (scrambling seed mask i)) (row (now (bits .entry)))) (now (bits .exit)) ⌝ }
+{
+    let out = outputs(seed % 1048576, mask);
+    let n = slot_part(bits.len());
+    for i in 0..n {
         bits[i] = added(bits[i], out[i]);
     }
 }

@@ -1,5 +1,4 @@
 // Decisions of parts, and points.
-ghost use Prim.Native.Nat.{_<_};
 use super::print;
 
 // A part's pattern, after a way through its bytes.
@@ -20,9 +19,7 @@ fn decided(bits: u32) {
     print::end();
 }
 
-fn point(s0: u8, s1: u8)
-    requires { ⌜ (s0 < 2) × (s1 < 2) ⌝ }
-{
+fn point(s0: u8, s1: u8) {
     let p = cells::point_of(parts::part_of_bits(0x3F35_04F3), s0, s1);
     print::text(b"point");
     print::byte(s0);

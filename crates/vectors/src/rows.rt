@@ -45,15 +45,6 @@ fn code(c: Carried) -> u8 {
     }
 }
 
-fn cell(mode: u8, symbol: usize, c: usize) -> u8
-    requires { ⌜ symbol < 4096 ⌝ }
-{
-    match mode {
-        0 => code(cells::carried(0, symbol, c)),
-        _ => code(cells::carried(1, symbol, c)),
-    }
-}
-
 fn entry(row: Row, i: usize) -> u8
     requires { ⌜ i < 4096 ⌝ }
 {
@@ -62,7 +53,7 @@ fn entry(row: Row, i: usize) -> u8
         Row::Products => times((i / 256 * 17) as u8, (i % 256) as u8),
         Row::Inverses => Element((i % 256) as u8).inverse().0,
         Row::Spoiling(lost, altered) => spoiling(lost, altered, i),
-        Row::Cells(mode, symbol) => cell(mode, symbol % 4096, i),
+        Row::Cells(mode, symbol) => code(cells::carried(mode, symbol, i)),
     }
 }
 

@@ -1,5 +1,5 @@
 // The turbo interleaver's addresses, and the scrambler's outputs.
-ghost use Prim.Native.Nat.{_*_, _^_, _<_, _≤_};
+ghost use Prim.Native.Nat.{_*_, _≤_};
 ghost use lib.ListN.{length};
 use super::print;
 
@@ -39,9 +39,7 @@ fn addresses() {
     print::end();
 }
 
-fn outputs(seed: u32, mask: u32)
-    requires { ⌜ seed < 2 ^ 20 ⌝ }
-{
+fn outputs(seed: u32, mask: u32) {
     let mut x = [0u8; 1000];
     slots::scramble(seed, mask, &mut x);
     print::text(b"scrambler");
@@ -52,9 +50,7 @@ fn outputs(seed: u32, mask: u32)
     print::end();
 }
 
-fn masks(seed: u32)
-    requires { ⌜ seed < 2 ^ 20 ⌝ }
-{
+fn masks(seed: u32) {
     outputs(seed, 0x00001);
     outputs(seed, 0x80000);
     outputs(seed, 0x5A5A5);

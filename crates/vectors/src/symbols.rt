@@ -1,7 +1,4 @@
 // What the cells of a symbol carry.
-ghost use Prim.Native.Nat.{_<_};
-ghost use lib.Dec.{T};
-ghost use Rattle.rules.specs.Slots.{isMode};
 use super::print;
 use super::rows;
 use super::rows::Row;
@@ -19,9 +16,7 @@ fn symbol(mode: u8, s: usize) {
     print::end();
 }
 
-fn cell(mode: u8, s: usize, c: usize)
-    requires { ⌜ T (isMode mode) × (s < 4096) ⌝ }
-{
+fn cell(mode: u8, s: usize, c: usize) {
     print::text(b"cell");
     print::byte(mode);
     print::decimal(s);
@@ -37,9 +32,7 @@ fn cell(mode: u8, s: usize, c: usize)
 }
 
 // Those beside the places 0, 249, 250 and 499 of interlaces 0 and 1, and the unused one.
-fn edges(mode: u8, s: usize)
-    requires { ⌜ T (isMode mode) × (s < 4096) ⌝ }
-{
+fn edges(mode: u8, s: usize) {
     cell(mode, s, 48);
     cell(mode, s, 49);
     cell(mode, s, 2040);

@@ -13,8 +13,8 @@ use Rattle.cells.proofs.Inverse.{cell-carried}
 use Rattle.cells.proofs.cell_at.Statement.{statement}
 use Rattle.cells.proofs.cell_at.Tie as tie
 
-carried-requires : tie.Need-carried-requires
-carried-requires c κs = search needs
+carried-in-requires : tie.Need-carried-in-requires
+carried-in-requires c κs = search needs
 
 enum-told : tie.Need-enum-told
 enum-told c = search needs
@@ -28,7 +28,7 @@ inside : (c : tie.After-known-told)
 inside c =
     let a = c .before .before .before .before .before .args in
     let w = cell-carried (a .mode) (a .symbol) (a .c) (c .before .t .given .0 .0) (c .before .t .given .0 .1 .0)
-    (sym (c .before .before .before .carried .ensures) ∙ c .before .t .given .1) in
+    (sym (c .before .before .before .carried-in .ensures) ∙ c .before .t .given .1) in
     (w .0, w .1)
 
 mul-at : tie.Need-mul-at
@@ -50,7 +50,7 @@ shared-slice-read-point-of-2 : tie.Need-shared-slice-read-point-of-2
 shared-slice-read-point-of-2 c = omega (arith, inside (c .before .before))
 
 point-of-requires : tie.Need-point-of-requires
-point-of-requires c κs = let b = c .before .before .before .before .before .before .before .pre .3 in (b _, b _)
+point-of-requires c κs = tt
 
 next : (t i : ℕ) → 1000 * t + 2 * i + 1 ≡ 1000 * t + (2 * i + 1)
 next t i = omega arith
@@ -58,7 +58,7 @@ next t i = omega arith
 returns : tie.Need-returns
 returns c =
     let a = c .before .before .before .before .args in
-    ap (cellFor (a .level) (slotBit (a .mode) (a .bits .now))) (sym (c .enum-told .given .1) ∙ c .before .before .carried .ensures)
+    ap (cellFor (a .level) (slotBit (a .mode) (a .bits .now))) (sym (c .enum-told .given .1) ∙ c .before .before .carried-in .ensures)
 
 returns-2 : tie.Need-returns-2
 returns-2 c =
@@ -67,13 +67,13 @@ returns-2 c =
     let bit = row (a .bits .now) in
     ap Carries (c .point-of .ensures)
     ∙ ap (λ (n : ℕ). Carries (pointOf (a .level) (bit (1000 * t .0 .0 + 2 * t .0 .1 .0)) (bit n))) (next (t .0 .0) (t .0 .1 .0))
-    ∙ ap (cellFor (a .level) (slotBit (a .mode) (a .bits .now))) (sym (t .1) ∙ c .before .before .before .before .before .before .carried .ensures)
+    ∙ ap (cellFor (a .level) (slotBit (a .mode) (a .bits .now))) (sym (t .1) ∙ c .before .before .before .before .before .before .carried-in .ensures)
 
 pub cell-at-spec : {M : Type 1} → statement M
 cell-at-spec =
     tie.close
     (tie.spec
-    carried-requires
+    carried-in-requires
     enum-told
     enum-known-t
     mul-at

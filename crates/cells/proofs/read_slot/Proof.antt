@@ -25,7 +25,7 @@ loop-holds c =
     let a = c .before .before .before .args in (
       search needs,
       read-none (a .mode) (a .firsts .now) (a .seconds .now) (slotBits (a .mode) * slots (a .mode)) (slotBits (a .mode) * a .t)
-          (slotBits (a .mode) * a .t + 2 * 0) (a .decided .now) (omega arith) (c .before .before .before .pre .4),
+          (slotBits (a .mode) * a .t + 2 * 0) (a .decided .now) (omega arith) (c .before .before .before .pre .3),
     )
 
 point-cell-requires : tie.Need-point-cell-requires Inv-loop μ-loop

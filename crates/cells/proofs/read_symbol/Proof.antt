@@ -1,11 +1,16 @@
 -- `cells::read_symbol` meets its contract. The loop's invariant: the bits of the symbol's slots before t are read, and the others stand as before.
+use mathlib.Core.Path.{refl, sym, _∙_}
+use mathlib.Core.Bool.{true≢false}
 use Prim.Native.Nat.{_+_, _-_, _*_, _≤_}
 use native.Mathlib.Omega.{arith}
+use lib.ListN.{length}
 use borrow.Author.Needs.{needs}
+use borrow.Author.Tests.{not-true, not-false}
 use Rattle.rules.specs.Slots.{slots, slotBits}
 use Rattle.laws.specs.Holds.{Holds}
 use Rattle.cells.specs.Symbol.{readIn}
-use Rattle.cells.proofs.Heard.{read-none, read-join, decided-read}
+use Rattle.cells.proofs.Fits.{Fits, fits}
+use Rattle.cells.proofs.Heard.{read-none, read-join, decided-read, slots-lt}
 use Rattle.cells.proofs.read_symbol.Statement.{statement}
 use Rattle.cells.proofs.read_symbol.Tie as tie
 
@@ -17,24 +22,41 @@ Inv-loop mode symbol firsts seconds decided₀ end t₀ decided t =
 abbrev μ-loop : tie.MeasureT-loop
 μ-loop mode symbol firsts seconds decided₀ end t₀ decided t = end - t
 
+fitting-requires : tie.Need-fitting-requires Inv-loop μ-loop
+fitting-requires c κs = search needs
+
+returns : tie.Need-returns Inv-loop μ-loop
+returns c =
+    let no = not-true _ (c .if1 .taken) in
+    record { answer = sym no ∙ c .before .fitting .ensures; done = λ e. absurd (true≢false (sym e)); kept = λ _. refl }
+
+-- the symbol can be read
+passed : (c : tie.Else1 Inv-loop μ-loop)
+    → (let a = c .before .before .before .before .before .args in
+    Fits (a .mode) (a .symbol) (length (a .decided .now)) (length (a .firsts .now)) (length (a .seconds .now)))
+passed c = fits _ _ _ _ _ (sym (c .before .fitting .ensures) ∙ not-false _ (c .if1 .left))
+
 slots-end-requires : tie.Need-slots-end-requires Inv-loop μ-loop
-slots-end-requires c κs = search needs
+slots-end-requires c κs = passed c .in-grid
 
 mul-t : tie.Need-mul-t Inv-loop μ-loop
-mul-t c = omega arith
+mul-t c = omega (arith, passed (c .before) .in-grid, slots-lt (c .before .before .before .before .before .before .args .mode))
 
 loop-holds : tie.Need-loop-holds Inv-loop μ-loop
 loop-holds c =
-    let a = c .before .before .before .before .args in
+    let a = c .before .before .before .before .before .before .args in
     let from = slotBits (a .mode) * (7 * a .symbol) in (
       omega arith,
-      omega arith,
+      omega (arith, passed (c .before) .in-grid),
       read-none (a .mode) (a .firsts .now) (a .seconds .now) (slotBits (a .mode) * slots (a .mode)) from from (a .decided .now)
-          (omega arith) (c .before .before .before .before .pre .4),
+          (omega arith) (passed (c .before) .bits-long),
     )
 
 read-slot-requires : tie.Need-read-slot-requires Inv-loop μ-loop
-read-slot-requires c κs = search needs
+read-slot-requires c κs =
+    let l = c .before .before in
+    let ok = passed (l .before .before) in
+    (omega arith, ok .firsts-long, ok .seconds-long, l .loop .inv .2 .long)
 
 add-t : tie.Need-add-t Inv-loop μ-loop
 add-t c = omega arith
@@ -44,24 +66,32 @@ loop-less c = omega arith
 
 loop-again : tie.Need-loop-again Inv-loop μ-loop
 loop-again c =
-    let a = c .before .before .before .before .before .before .before .before .before .before .args in
-    let t = c .before .before .before .before .before .loop .t in (
+    let l = c .before .before .before .before .before in
+    let a = l .before .before .before .before .before .before .before .args in
+    let t = l .loop .t in (
       omega arith,
       omega arith,
       read-join (a .mode) (a .firsts .now) (a .seconds .now) (slotBits (a .mode) * slots (a .mode))
           (slotBits (a .mode) * (7 * a .symbol)) (slotBits (a .mode) * t) (slotBits (a .mode) * (t + 1)) (a .decided .now)
-          (c .before .before .before .before .before .loop .decided) (c .before .before .read-slot .last .1 .1 .1 .1 .0)
-          (omega arith) (omega arith) (c .before .before .before .before .before .loop .inv .2) (c .before .before .read-slot .ensures),
+          (l .loop .decided) (c .before .before .read-slot .last .1 .1 .1 .1 .0)
+          (omega arith) (omega arith) (l .loop .inv .2) (c .before .before .read-slot .ensures),
     )
 
 same-length : tie.Need-same-length Inv-loop μ-loop
-same-length c = omega arith
+same-length c = c .before .loop .inv .2 .long ∙ sym (passed (c .before .before .before) .bits-long)
 
-returns : tie.Need-returns Inv-loop μ-loop
-returns c =
-    let a = c .before .before .before .before .before .before .args in
-    decided-read (a .mode) (a .symbol) (c .before .loop .t) (a .firsts .now) (a .seconds .now) (a .decided .now) (c .before .loop .decided)
-    (omega arith) (c .before .loop .inv .2)
+returns-2 : tie.Need-returns-2 Inv-loop μ-loop
+returns-2 c =
+    let l = c .before in
+    let e = l .before .before in
+    let a = e .before .before .before .before .before .args in
+    record {
+      answer = sym (not-false _ (e .if1 .left)) ∙ e .before .fitting .ensures;
+      done = λ _.
+          decided-read (a .mode) (a .symbol) (l .loop .t) (a .firsts .now) (a .seconds .now) (a .decided .now) (l .loop .decided)
+          (omega arith) (l .loop .inv .2);
+      kept = λ e. absurd (true≢false e);
+    }
 
 pub read-symbol-spec : {M : Type 1} → statement M
 read-symbol-spec =
@@ -69,6 +99,8 @@ read-symbol-spec =
     (tie.spec
     Inv-loop
     μ-loop
+    fitting-requires
+    returns
     slots-end-requires
     mul-t
     loop-holds
@@ -77,4 +109,4 @@ read-symbol-spec =
     loop-less
     loop-again
     same-length
-    returns)
+    returns-2)

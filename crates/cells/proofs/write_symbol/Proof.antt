@@ -1,13 +1,17 @@
 -- `cells::write_symbol` meets its contract. The loop's invariant: each of the two lists has the parts of the cells before c.
-use mathlib.Core.Path.{refl, _∙_, ap}
+use mathlib.Core.Path.{refl, sym, _∙_, ap}
+use mathlib.Core.Bool.{true≢false}
 use Prim.Native.Nat.{_-_, _≤_}
 use native.Mathlib.Omega.{arith}
-use lib.ListN.{getD}
+use lib.ListN.{length, getD}
 use borrow.Author.Needs.{needs}
+use borrow.Author.Tests.{not-true, not-false}
 use Rattle.rules.specs.Points.{zeroPart, firstPart, secondPart}
 use Rattle.cells.specs.Symbol.{symbolCell}
 use Rattle.laws.specs.Holds.{Holds}
 use Rattle.laws.specs.Filled.{upTo, holds-first, holds-next, holds-whole}
+use Rattle.cells.proofs.Heard.{slots-lt}
+use Rattle.cells.proofs.Fits.{Fits, fits}
 use Rattle.cells.proofs.write_symbol.Statement.{statement}
 use Rattle.cells.proofs.write_symbol.Tie as tie
 
@@ -20,13 +24,31 @@ Inv-loop mode level bits symbol firsts₀ seconds₀ c₀ firsts seconds c =
 abbrev μ-loop : tie.MeasureT-loop
 μ-loop mode level bits symbol firsts₀ seconds₀ c₀ firsts seconds c = 4096 - c
 
+fitting-requires : tie.Need-fitting-requires Inv-loop μ-loop
+fitting-requires c κs = search needs
+
+returns : tie.Need-returns Inv-loop μ-loop
+returns c =
+    let no = not-true _ (c .if1 .taken) in
+    record { answer = sym no ∙ c .before .fitting .ensures; done = λ e. absurd (true≢false (sym e)); kept = λ _. (refl, refl) }
+
+-- the symbol can be written
+passed : (c : tie.Else1 Inv-loop μ-loop)
+    → (let a = c .before .before .before .before .before .args in
+    Fits (a .mode) (a .symbol) (length (a .bits .now)) (length (a .firsts .now)) (length (a .seconds .now)))
+passed c = fits _ _ _ _ _ (sym (c .before .fitting .ensures) ∙ not-false _ (c .if1 .left))
+
 loop-holds : tie.Need-loop-holds Inv-loop μ-loop
-loop-holds c =
-    let p = c .before .before .before .pre in
-    (search needs, holds-first _ _ zeroPart (record { long = p .4; each = λ k l. refl }), holds-first _ _ zeroPart (record { long = p .5; each = λ k l. refl }))
+loop-holds c = (
+  search needs,
+  holds-first _ _ zeroPart (record { long = passed c .firsts-long; each = λ k l. refl }),
+  holds-first _ _ zeroPart (record { long = passed c .seconds-long; each = λ k l. refl }),
+)
 
 cell-at-requires : tie.Need-cell-at-requires Inv-loop μ-loop
-cell-at-requires c κs = search needs
+cell-at-requires c κs =
+    let e = c .before .before in
+    (omega (arith, passed e .in-grid, slots-lt (e .before .before .before .before .before .args .mode)), passed e .bits-long)
 
 parts-of-requires : tie.Need-parts-of-requires Inv-loop μ-loop
 parts-of-requires c κs = search needs
@@ -59,15 +81,21 @@ loop-again c =
     )
 
 same-length : tie.Need-same-length Inv-loop μ-loop
-same-length c = omega arith
+same-length c = c .before .loop .inv .1 .long ∙ sym (passed (c .before .before) .firsts-long)
 
 same-length-2 : tie.Need-same-length-2 Inv-loop μ-loop
-same-length-2 c = omega arith
+same-length-2 c = c .before .loop .inv .2 .long ∙ sym (passed (c .before .before) .seconds-long)
 
-returns : tie.Need-returns Inv-loop μ-loop
-returns c =
+returns-2 : tie.Need-returns-2 Inv-loop μ-loop
+returns-2 c =
     let inv = c .before .loop .inv in
-    record { firsts-are = holds-whole _ _ zeroPart _ (omega arith) (inv .1); seconds-are = holds-whole _ _ zeroPart _ (omega arith) (inv .2) }
+    let e = c .before .before in
+    record {
+      answer = sym (not-false _ (e .if1 .left)) ∙ e .before .fitting .ensures;
+      done = λ _.
+          record { firsts-are = holds-whole _ _ zeroPart _ (omega arith) (inv .1); seconds-are = holds-whole _ _ zeroPart _ (omega arith) (inv .2) };
+      kept = λ e. absurd (true≢false e);
+    }
 
 pub write-symbol-spec : {M : Type 1} → statement M
 write-symbol-spec =
@@ -75,6 +103,8 @@ write-symbol-spec =
     (tie.spec
     Inv-loop
     μ-loop
+    fitting-requires
+    returns
     loop-holds
     cell-at-requires
     parts-of-requires
@@ -87,4 +117,4 @@ write-symbol-spec =
     loop-again
     same-length
     same-length-2
-    returns)
+    returns-2)

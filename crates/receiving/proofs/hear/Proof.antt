@@ -8,7 +8,6 @@ use borrow.Author.Needs.{needs}
 use borrow.Author.Tests.{not-true, not-false, eq-eqb, ne-eqb, lt-ltb, le-ltb}
 use Rattle.rules.specs.Slots.{slotBits, slots, symbols}
 use Rattle.rules.specs.Profile.{inRange}
-use Rattle.block.proofs.Ranges.{ranges}
 use Rattle.block.proofs.Sizes.{whole-slots}
 use Rattle.receiving.proofs.OneSymbol.{hear-refused, hear-filled}
 use Rattle.receiving.proofs.hear.Statement.{statement}
@@ -61,12 +60,7 @@ inside : (c : tie.Else4)
 inside c = omega arith
 
 with-symbol-requires : tie.Need-with-symbol-requires
-with-symbol-requires c κs = (
-  ranges (c .before .before .before .before .before .before .before .before .args .p) (rw (in-range (c .before .before .before .before)) tt) .mode,
-  inside c,
-  c .before .before .before .if2 .left,
-  c .before .before .if3 .left,
-)
+with-symbol-requires c κs = (inside c, c .before .before .before .if2 .left, c .before .before .if3 .left)
 
 room : (c : tie.After-with-symbol)
     → let a = c .before .before .before .before .before .before .before .before .before .args in

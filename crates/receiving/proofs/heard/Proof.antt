@@ -60,7 +60,6 @@ with-symbol-requires : tie.Need-with-symbol-requires Inv-loop μ-loop
 with-symbol-requires c κs =
     let s = c .before .before .before .before .before .before .before in
     let at : ℕ = 4096 * c .before .before .before .loop .y in (
-      s .pre .0,
       omega arith,
       part-long at (at + 4096) (s .args .firsts .now) (omega arith) (omega arith) ∙ omega arith,
       part-long at (at + 4096) (s .args .seconds .now) (omega arith) (omega arith) ∙ omega arith,

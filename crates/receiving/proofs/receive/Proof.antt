@@ -48,9 +48,7 @@ returns c =
     (e .early .result) (number e) (c .before .if1 .taken) (c .silence .ensures) refl
 
 heard-requires : tie.Need-heard-requires
-heard-requires c κs =
-    let a = c .before .before .before .before .before .before .args in
-    (ranges (a .p) (passed c .range) .mode, passed c .firsts-long, passed c .seconds-long)
+heard-requires c κs = (passed c .firsts-long, passed c .seconds-long)
 
 judge-requires : tie.Need-judge-requires
 judge-requires c κs = (passed (c .before .before) .range, passed (c .before .before) .data-long)

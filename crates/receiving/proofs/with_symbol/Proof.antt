@@ -4,6 +4,7 @@ use native.Mathlib.Omega.{arith}
 use lib.ListN.{length, take}
 use lib.Seq.{length-take-le}
 use borrow.Author.Needs.{needs}
+use Rattle.cells.proofs.Fits.{read-done}
 use Rattle.receiving.proofs.OneSymbol.{lent-front}
 use Rattle.receiving.proofs.with_symbol.Statement.{statement}
 use Rattle.receiving.proofs.with_symbol.Tie as tie
@@ -23,17 +24,23 @@ slice-aggregate-read-symbol : tie.Need-slice-aggregate-read-symbol
 slice-aggregate-read-symbol c = sym (front-long (c .before))
 
 read-symbol-requires : tie.Need-read-symbol-requires
-read-symbol-requires c κs =
-    let h = c .before .before .before .before .pre in
-    (h .0, h .1, h .2, h .3, front-long (c .before) ∙ c .before .block-bits .ensures .0)
+read-symbol-requires c κs = tt
 
 returns : tie.Need-returns
 returns c =
     let n = c .before .before .before .block-bits in
-    let a = c .before .before .before .before .before .before .args in
+    let s = c .before .before .before .before .before .before in
+    let a = s .args in
     let long : length (a .bits) ≡ 48000 = search needs in
+    let read = read-done (c .before .read-symbol .ensures)
+    (record {
+      firsts-long = s .pre .1;
+      seconds-long = s .pre .2;
+      in-grid = s .pre .0;
+      bits-long = front-long (c .before .before .before) ∙ n .ensures .0;
+    }) in
     let all = lent-front (a .mode) (a .symbol) (a .firsts .now) (a .seconds .now) (a .bits) (n .result) (c .before .read-symbol .last .1 .1 .1 .1 .0)
-    (n .ensures .0) (omega arith) (c .before .read-symbol .ensures) in
+    (n .ensures .0) (omega arith) read in
     rw long at all
 
 pub with-symbol-spec : {M : Type 1} → statement M

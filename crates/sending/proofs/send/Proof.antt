@@ -5,7 +5,6 @@ use borrow.Author.Needs.{needs}
 use lib.ListN.{length, take}
 use Rattle.rules.specs.Slots.{symbols}
 use Rattle.rules.specs.Block.{early}
-use Rattle.block.proofs.Ranges.{ranges}
 use Rattle.block.proofs.Passed.{Right, right}
 use Rattle.sending.proofs.Cells.{Front, front, grid-cells}
 use Rattle.sending.proofs.send.Statement.{statement}
@@ -43,7 +42,7 @@ lent c =
     let a = c .before .before .before .before .before .before .before .before .args in
     let b = c .before .sent-bits in
     front (a .p) (a .«data» .now) (1000 * c .slot-count .result) (b .result) (ap (λ (n : ℕ). 1000 * n) (c .slot-count .ensures .0))
-    (b .ok .1 .0 .1) (b .ensures .0) (b .ensures .1)
+    (b .ok .1 .0 .1) (b .ensures)
 
 returns : tie.Need-returns
 returns c = record { answer = answer (c .before); cells = λ z. absurd (c .if1 .taken z); kept = λ _. (refl, refl) }
@@ -67,7 +66,7 @@ write-grid-requires : tie.Need-write-grid-requires
 write-grid-requires c κs =
     let b = c .before .before .before in
     let ok = passed (b .before .before) in
-    (ranges _ (ok .range) .mode, lent b .long, lent b .bits, ok .firsts-long, ok .seconds-long)
+    (lent b .long, ok .firsts-long, ok .seconds-long)
 
 same-length : tie.Need-same-length
 same-length c = search needs

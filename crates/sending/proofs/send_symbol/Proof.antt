@@ -6,7 +6,7 @@ use borrow.Author.Needs.{needs}
 use borrow.Author.Tests.{lt-ltb, le-ltb, ne-eqb}
 use lib.ListN.{length, take}
 use Rattle.rules.specs.Slots.{symbols}
-use Rattle.block.proofs.Ranges.{ranges}
+use Rattle.cells.proofs.Fits.{write-done}
 use Rattle.block.proofs.Passed.{Right, right}
 use Rattle.sending.proofs.Cells.{Front, front, symbol-cells}
 use Rattle.sending.proofs.send_symbol.Statement.{statement}
@@ -28,7 +28,7 @@ lent c =
     let a = c .before .before .before .before .before .before .before .before .before .args in
     let b = c .before .sent-bits in
     front (a .p) (a .«data» .now) (1000 * c .slot-count .result) (b .result) (ap (λ (n : ℕ). 1000 * n) (c .slot-count .ensures .0))
-    (b .ok .1 .0 .1) (b .ensures .0) (b .ensures .1)
+    (b .ok .1 .0 .1) (b .ensures)
 
 returns : tie.Need-returns
 returns c =
@@ -67,10 +67,7 @@ slice-aggregate-write-symbol : tie.Need-slice-aggregate-write-symbol
 slice-aggregate-write-symbol c = ap (λ (n : ℕ). 1000 * n) (c .before .slot-count .ensures .0) ∙ sym (lent (c .before) .long)
 
 write-symbol-requires : tie.Need-write-symbol-requires
-write-symbol-requires c κs =
-    let b = c .before .before .before in
-    let ok = passed (b .before .before .before .before) in
-    (ranges _ (ok .range) .mode, omega arith, lent b .long, lent b .bits, ok .firsts-long, ok .seconds-long)
+write-symbol-requires c κs = tt
 
 same-length : tie.Need-same-length
 same-length c = search needs
@@ -86,9 +83,12 @@ returns-3 c =
     let a = e .before .before .before .before .before .args in
     let one : a .symbol < symbols (a .p .mode) =
     omega (arith, b .before .before .if2 .left, b .before .before .before .symbol-count .ensures .0) in
+    let ok = passed e in
+    let written = write-done (w .write-symbol .ensures)
+    (record { firsts-long = ok .firsts-long; seconds-long = ok .seconds-long; in-grid = one; bits-long = lent b .long }) in
     record {
       answer = sym (rw (← e .before .early .ensures, e .if1 .left, lt-ltb _ _ one));
-      cells = λ _. symbol-cells (a .p) (a .«data» .now) _ (lent b .sent) (a .symbol) _ _ (w .write-symbol .ensures);
+      cells = λ _. symbol-cells (a .p) (a .«data» .now) _ (lent b .sent) (a .symbol) _ _ written;
       kept = λ n. absurd (n refl);
     }
 

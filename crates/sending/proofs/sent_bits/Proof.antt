@@ -1,7 +1,7 @@
 -- `sending::sent_bits` meets its contract.
 use borrow.Author.Needs.{needs}
 use Rattle.block.proofs.Ranges.{ranges}
-use Rattle.sending.proofs.Sent.{sent}
+use Rattle.sending.proofs.Sent.{sent-row}
 use Rattle.sending.proofs.sent_bits.Statement.{statement}
 use Rattle.sending.proofs.sent_bits.Tie as tie
 
@@ -17,7 +17,7 @@ scrambled-requires c κs = search needs
 returns : tie.Need-returns
 returns c =
     let s = c .before .before .before .before in
-    sent (s .args .p) (s .args .«data» .now) (c .before .before .block-of .result)
+    sent-row (s .args .p) (s .args .«data» .now) (c .before .before .block-of .result)
     (c .before .code-block .result) (c .scrambled .result) (c .before .before .block-of .ensures)
     (c .before .code-block .ensures) (c .scrambled .ensures)
 

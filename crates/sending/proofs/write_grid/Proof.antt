@@ -9,7 +9,8 @@ use Rattle.rules.specs.Points.{zeroPart, firstPart, secondPart}
 use Rattle.rules.specs.Slots.{symbols}
 use Rattle.laws.specs.Holds.{Holds}
 use Rattle.laws.specs.Filled.{upTo, holds-first, holds-whole}
-use Rattle.laws.specs.Parts.{part-long}
+use Rattle.laws.specs.Parts.{part, part-long}
+use Rattle.cells.proofs.Fits.{write-done}
 use Rattle.sending.specs.Steps.{gridCell}
 use Rattle.sending.proofs.Grid.{grid-turn}
 use Rattle.sending.proofs.write_grid.Statement.{statement}
@@ -33,7 +34,7 @@ loop-holds c =
     let whole : (l : List Float) → length l ≡ 4096 * symbols (s .args .mode)
     → Holds zeroPart (4096 * symbols (s .args .mode)) (λ i. getD l i zeroPart) l
     = λ l e. record { long = e; each = λ k lt. refl } in
-    (omega arith, holds-first _ _ zeroPart (whole _ (s .pre .3)), holds-first _ _ zeroPart (whole _ (s .pre .4)))
+    (omega arith, holds-first _ _ zeroPart (whole _ (s .pre .1)), holds-first _ _ zeroPart (whole _ (s .pre .2)))
 
 mul-at : tie.Need-mul-at Inv-loop μ-loop
 mul-at c = omega arith
@@ -66,17 +67,7 @@ part-write-symbol-end-2 : tie.Need-part-write-symbol-end-2 Inv-loop μ-loop
 part-write-symbol-end-2 c = omega (arith, c .before .before .loop .inv .2 .long)
 
 write-symbol-requires : tie.Need-write-symbol-requires Inv-loop μ-loop
-write-symbol-requires c κs =
-    let l = c .before .before .before in
-    let pre = l .before .before .before .before .before .pre in
-    let here = 4096 * l .loop .y in (
-      pre .0,
-      omega arith,
-      pre .1,
-      pre .2,
-      part-long here (here + 4096) (l .loop .firsts) (omega arith) (omega (arith, l .loop .inv .1 .long)) ∙ omega arith,
-      part-long here (here + 4096) (l .loop .seconds) (omega arith) (omega (arith, l .loop .inv .2 .long)) ∙ omega arith,
-    )
+write-symbol-requires c κs = tt
 
 add-y : tie.Need-add-y Inv-loop μ-loop
 add-y c = omega arith
@@ -88,19 +79,30 @@ loop-again : tie.Need-loop-again Inv-loop μ-loop
 loop-again c =
     let w = c .before .before .before .before in
     let l = w .before .before .before .before in
-    let a = l .before .before .before .before .before .args in (
+    let a = l .before .before .before .before .before .args in
+    let pre = l .before .before .before .before .before .pre in
+    let here = 4096 * l .loop .y in
+    let part-4096 : (x : List Float) → here + 4096 ≤ length x → length (part here (here + 4096) x) ≡ 4096
+    = λ x room. part-long here (here + 4096) x (omega arith) room ∙ omega arith in
+    let written = write-done (w .write-symbol .ensures)
+    (record {
+      firsts-long = part-4096 (l .loop .firsts) (omega (arith, l .loop .inv .1 .long));
+      seconds-long = part-4096 (l .loop .seconds) (omega (arith, l .loop .inv .2 .long));
+      in-grid = omega arith;
+      bits-long = pre .0;
+    }) in (
       omega arith,
       grid-turn firstPart (a .mode) (a .level) (a .bits .now) _ (l .loop .firsts) _ (l .loop .y) _ refl (omega arith)
-          (w .write-symbol .ensures .firsts-are) (l .loop .inv .1),
+          (written .firsts-are) (l .loop .inv .1),
       grid-turn secondPart (a .mode) (a .level) (a .bits .now) _ (l .loop .seconds) _ (l .loop .y) _ refl (omega arith)
-          (w .write-symbol .ensures .seconds-are) (l .loop .inv .2),
+          (written .seconds-are) (l .loop .inv .2),
     )
 
 same-length : tie.Need-same-length Inv-loop μ-loop
-same-length c = omega (arith, c .before .loop .inv .1 .long, c .before .before .before .before .before .before .pre .3)
+same-length c = omega (arith, c .before .loop .inv .1 .long, c .before .before .before .before .before .before .pre .1)
 
 same-length-2 : tie.Need-same-length-2 Inv-loop μ-loop
-same-length-2 c = omega (arith, c .before .loop .inv .2 .long, c .before .before .before .before .before .before .pre .4)
+same-length-2 c = omega (arith, c .before .loop .inv .2 .long, c .before .before .before .before .before .before .pre .2)
 
 returns : tie.Need-returns Inv-loop μ-loop
 returns c =

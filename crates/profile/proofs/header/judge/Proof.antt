@@ -1,5 +1,6 @@
 -- Test by test.
 use mathlib.Core.Path.{sym, _∙_}
+use native.Mathlib.Omega.{arith}
 use Rattle.profile.proofs.Walk.{heading-none, heading-cut, heading-tag, heading-length, heading-short, heading-whole}
 use borrow.Author.Needs.{needs}
 use Rattle.profile.proofs.header.judge.Statement.{statement}
@@ -19,12 +20,12 @@ shared-slice-read-first c = search needs
 returns-2 : tie.Need-returns-2
 returns-2 c =
     let a = c .before .before .before .before .args in
-    heading-cut (a .s .now) (a .at) (a .tag) (a .due) (c .before .before .if1 .left) (c .if2 .taken)
+    heading-cut (a .s .now) (a .at) (a .tag) (a .due) (c .before .before .if1 .left) (omega arith)
 
 returns-3 : tie.Need-returns-3
 returns-3 c =
     let a = c .before .before .before .before .before .args in
-    heading-tag (a .s .now) (a .at) (a .tag) (a .due) (c .before .before .before .if1 .left) (c .before .if2 .left) (c .if3 .taken)
+    heading-tag (a .s .now) (a .at) (a .tag) (a .due) (c .before .before .before .if1 .left) (omega arith) (c .if3 .taken)
 
 add-pair : tie.Need-add-pair
 add-pair c = search needs

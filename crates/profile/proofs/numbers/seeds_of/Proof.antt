@@ -4,7 +4,7 @@ use Prim.Native.Nat.{ℕ, _≤_}
 use native.Mathlib.Omega.{arith}
 use lib.ListN.{length, take, replicate}
 use lib.Seq.{length-take-le}
-use Rattle.profile.proofs.Run.{drop-replicate}
+use Rattle.laws.specs.Run.{drop-replicate}
 use borrow.Author.Needs.{needs}
 use Rattle.profile.proofs.numbers.seeds_of.Statement.{statement}
 use Rattle.profile.proofs.numbers.seeds_of.Tie as tie
