@@ -260,12 +260,13 @@ def coded_lines():
     yield coded_line("short", 1, 6, [0] * 2000)
     yield coded_line("room", 0, 6, [0] * 2999)
     yield coded_line("mode", 2, 4, [0] * 2000)
-    for at in (2000, 0, 4, 1999):
-        bits = coded_packet(formula(122), 1)
-        if at < 2000:
+    reserved = 4 * (2 * 992 % 500) + 2 * 992 // 500
+    for flipped in (2000, 2000), (0, 2000), (4, 2000), (1999, 2000), (reserved, 2000), (0, reserved):
+        bits = coded_packet(formula(122), 1) + [0]
+        for at in flipped:
             bits[at] ^= 1
-        reason, data = judged(bits)
-        yield "judged", at, reason, word(data, 8)
+        reason, data = judged(bits[:2000])
+        yield "judged", *flipped, reason, word(data, 8)
 
 def slot_lines():
     for seed in 1, 0xFFFFF, 0x12345:

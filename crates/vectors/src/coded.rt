@@ -40,19 +40,33 @@ fn both(name: &[u8], bytes: &[u8]) {
     coded(name, 1, bytes, &mut [0u8; 2000]);
 }
 
-// The reason, and the check word of the bytes, with one bit flipped, or none.
-fn judged(at: usize, bytes: &[u8]) {
+// The reason, and the check word of the bytes, with up to two bits flipped: a place of 2000 is none.
+fn judged(at: usize, also: usize, bytes: &[u8]) {
     let mut v = [0u8; 3000];
     turbo::code(1, bytes, &mut v[0..2000]);
     if at < 2000 {
         v[at] = v[at] ^ 1;
     }
+    if also < 2000 {
+        v[also] = v[also] ^ 1;
+    }
     let a = turbo::judge(1, v);
     print::text(b"judged");
     print::decimal(at);
+    print::decimal(also);
     print::byte(a.reason);
     print::bytes_word(&a.bytes);
     print::end();
+}
+
+fn judgements(bytes: &[u8]) {
+    judged(2000, 2000, bytes);
+    judged(0, 2000, bytes);
+    judged(4, 2000, bytes);
+    judged(1999, 2000, bytes);
+    // the first reserved bit, and with it the first data bit
+    judged(1939, 2000, bytes);
+    judged(0, 1939, bytes);
 }
 
 pub fn all() {
@@ -64,8 +78,5 @@ pub fn all() {
     coded(b"short", 1, &bytes[0..121], &mut [0u8; 2000]);
     coded(b"room", 0, &bytes, &mut [0u8; 2999]);
     coded(b"mode", 2, &bytes, &mut [0u8; 2000]);
-    judged(2000, &bytes);
-    judged(0, &bytes);
-    judged(4, &bytes);
-    judged(1999, &bytes);
+    judgements(&bytes);
 }
