@@ -1,11 +1,17 @@
-/* The card as a C library. Lists pass as pointer and length; results go through pointers and are written at every return (zero where document 01
-   says zero). Memory that is lent, the cell lists of a send and the data room of a receive, keeps what it held on a refusal. No pointer may be
-   null, except with length 0, and what is written through must not overlap anything else that is passed.
+/* The card as a C library, for C99 and C++11. docs/GUIDE.md says what a block, a packet, a symbol and a cell are, what each number usually means,
+   and how to make the library and link it.
 
-   Every call answers a number of document 01's table: 0 done, 1 profile ends inside a field, 2 tag other than the one due, 3 declared length wrong,
-   4 value outside its range, 5 profile ends between fields with one due, 6 data length isn't 122K, 7 a cell list isn't 4096 x symbols (4096 for a
-   single symbol), 8 symbol number outside the grid, 9 more than r packets lost, 10 at most r lost and in some column no codeword agrees.
-   The number of reading the profile comes first, then the call's own, the first that fits. */
+   Lists pass as pointer and length. No pointer may be null, except with length 0, and what is written through must not overlap anything else
+   that is passed.
+
+   What a call writes is of two kinds:
+   - Answers, which come back through the result pointers: `lost` and `reasons`; `masks`, `level`, `mode`, `k` and `seeds` of flo_read_profile;
+     `profile` and `count` of flo_write_profile. They are written at every return, whatever they held before: on a refusal with zeros, except
+     that flo_receive still says at 9 and 10 which packets are lost and why.
+   - Lent memory: the cell lists of a send, the `data` of flo_receive, the `block` of flo_parity. On a refusal it keeps what it held.
+
+   A call keeps nothing for the next one, and the library has no memory of its own and asks for none. Calls may run on several threads at once, as
+   long as none writes what another one reads or writes. The library calls memcpy, memmove and memset and nothing else. */
 #ifndef FLO_H
 #define FLO_H
 
@@ -16,30 +22,70 @@
 extern "C" {
 #endif
 
-/* Fills the whole grid: 1 to 5, 4, 6, 7. */
+/* Sizes. Each of the two cell lists of a whole grid has FLO_SYMBOLS(mode) * FLO_SYMBOL_CELLS floats, and the data k * FLO_PACKET_BYTES bytes. */
+#define FLO_SYMBOL_CELLS 4096                     /* cells of a symbol */
+#define FLO_MOST_SYMBOLS 7                        /* symbols of the largest grid */
+#define FLO_SYMBOLS(mode) ((mode) == 0 ? 7 : 5)   /* symbols of a grid, for modes 0 and 1 */
+#define FLO_PACKETS 16                            /* packets of a block: k of data, then the parity packets */
+#define FLO_PACKET_BYTES 122                      /* bytes of a packet */
+#define FLO_BLOCK_BYTES 1952                      /* bytes of a block's 16 packets */
+#define FLO_MOST_DATA 1708                        /* bytes of the most data, at k = 14 */
+#define FLO_MASKS 8                               /* scrambling masks of a profile */
+#define FLO_SEEDS 48                              /* places for seeds in a profile as a value; mode 1 uses 32, and the others are zero */
+#define FLO_MOST_PROFILE 245                      /* bytes of the longest profile; the other length is 181, in mode 1 */
+
+/* A thread with a stack of this many bytes can make every call. As measured, a call takes at most 158,000 of them (docs/MEASURED.md). */
+#define FLO_STACK 262144
+
+/* Every call answers one of these numbers: the first of 1 to 5 that reading the profile finds, then the first of the call's own, in rising order.
+   Only FLO_DONE is a success. */
+enum flo_number {
+    FLO_DONE = 0,
+    FLO_CUT_IN_FIELD = 1,    /* the profile ends inside a field */
+    FLO_WRONG_TAG = 2,       /* a tag other than the one due */
+    FLO_WRONG_LENGTH = 3,    /* a field's declared length is wrong */
+    FLO_OUT_OF_RANGE = 4,    /* a value is outside its range */
+    FLO_FIELD_MISSING = 5,   /* the profile ends between fields with one due */
+    FLO_DATA_LENGTH = 6,     /* the data isn't k * 122 bytes long (flo_parity: the block isn't 1952) */
+    FLO_CELLS_LENGTH = 7,    /* a cell list isn't 4096 x symbols long, or 4096 for a single symbol */
+    FLO_NO_SUCH_SYMBOL = 8,  /* the symbol's number is outside the grid */
+    FLO_TOO_MANY_LOST = 9,   /* more than 16 - k packets are lost */
+    FLO_NO_CODEWORD = 10     /* few enough are lost, but some accepted packet can't be right: in a column no codeword agrees */
+};
+
+/* Why flo_receive holds a packet for lost: the first that fits. */
+enum flo_reason {
+    FLO_ACCEPTED = 0,        /* it isn't lost */
+    FLO_MARKED = 11,         /* the caller marked it */
+    FLO_DOUBTFUL = 12,       /* a part of its cells is zero or NaN */
+    FLO_CHECK_WORD = 13,     /* its check word doesn't fit its data */
+    FLO_RESERVED_BITS = 14,  /* its two reserved bits aren't zero */
+    FLO_CODED_BITS = 15      /* its coded bits aren't those that its data gives */
+};
+
+/* Fills the whole grid: 0, 1 to 5, 6, 7. */
 uint32_t flo_send(const uint8_t *profile, size_t profile_length, const uint8_t *data, size_t data_length, float *firsts, size_t firsts_length,
                   float *seconds, size_t seconds_length);
 
-/* Fills two lists of 4096 with that part of the whole grid: 1 to 5, 4, 6, 7, 8. */
+/* Fills two lists of 4096 with that part of the whole grid, symbols from 0: 0, 1 to 5, 6, 7, 8. */
 uint32_t flo_send_symbol(const uint8_t *profile, size_t profile_length, const uint8_t *data, size_t data_length, size_t symbol, float *firsts,
                          size_t firsts_length, float *seconds, size_t seconds_length);
 
-/* Receives a whole grid: 1 to 5, 4, 6, 7, 9, 10. Bit p of marks says that packet p is lost. At 0 the first K packets are written to data. Bit p of
-   lost and reasons[p] are packet p's: 0 accepted, 11 marked, 12 a doubtful bit, 13 check word, 14 reserved bits, 15 coded bits differ; all zero at
-   every number but 0, 9 and 10. */
+/* Receives a whole grid: 0, 1 to 5, 6, 7, 9, 10. Bit p of marks says that packet p is lost. At 0 the first k packets are written to data. Bit p of
+   lost is set, and reasons[p] isn't 0, exactly when packet p is lost; all zero at every number but 0, 9 and 10. */
 uint32_t flo_receive(const uint8_t *profile, size_t profile_length, uint16_t marks, const float *firsts, size_t firsts_length,
                      const float *seconds, size_t seconds_length, uint8_t *data, size_t data_length, uint16_t *lost, uint8_t reasons[16]);
 
-/* Reads a profile: 1 to 5. On a refusal all numbers are zero and the level is +0.0. */
+/* Reads a profile: 0, 1 to 5. On a refusal all numbers are zero and the level is +0.0. */
 uint32_t flo_read_profile(const uint8_t *profile, size_t profile_length, uint32_t masks[8], float *level, uint8_t *mode, uint8_t *k,
                           uint32_t seeds[48]);
 
-/* Writes a profile: 4. The bytes after the written ones are zero; on a refusal all are, and the count is 0. */
+/* Writes a profile: 0, 4. The bytes after the written ones are zero; on a refusal all are, and the count is 0. */
 uint32_t flo_write_profile(const uint32_t masks[8], float level, uint8_t mode, uint8_t k, const uint32_t seeds[48], uint8_t profile[245],
                            size_t *count);
 
-/* Fills packets k to 15 of a block of 16 packets of 122 bytes with the outer parity of the k before them: 4 k isn't 8, 12 or 14, 6 the block isn't
-   1952 bytes long. */
+/* Fills packets k to 15 of a block of 16 packets of 122 bytes with the outer parity of the k before them: 0, 4 where k isn't 8, 12 or 14, 6 where
+   the block isn't 1952 bytes long. */
 uint32_t flo_parity(uint8_t k, uint8_t *block, size_t block_length);
 
 #ifdef __cplusplus

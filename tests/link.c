@@ -1,0 +1,375 @@
+/* The C library as a user has it: include/flo.h, the library, nothing else of this repository. tests/c-library compiles this file as C99 and as C++11
+   and runs both. The last line is 'N passed, M failed'; exit 0 when nothing failed. */
+#ifndef _GNU_SOURCE
+#define _GNU_SOURCE
+#endif
+#include "flo.h"
+
+#include <pthread.h>
+#include <stdio.h>
+#include <string.h>
+#include <sys/mman.h>
+
+enum { THREADS = 4, TURNS = 40, CELLS = FLO_MOST_SYMBOLS * FLO_SYMBOL_CELLS, PAINT = 0xA5 };
+
+static int passed, failed;
+
+static void test(const char *what, int is_right) {
+    if (is_right) {
+        passed++;
+    } else {
+        failed++;
+        printf("failed: %s\n", what);
+    }
+}
+
+/* ---- one block: what goes into it and all that comes out of it */
+
+struct block {
+    uint8_t mode, k;
+    uint8_t profile[FLO_MOST_PROFILE];
+    size_t profile_length;
+    uint8_t data[FLO_MOST_DATA];
+    size_t data_length;
+    float firsts[CELLS], seconds[CELLS];
+    size_t cells;
+    uint8_t received[FLO_MOST_DATA];
+    uint16_t lost;
+    uint8_t reasons[FLO_PACKETS];
+};
+
+static uint32_t write_profile(struct block *b, float level) {
+    uint32_t masks[FLO_MASKS], seeds[FLO_SEEDS];
+    unsigned i;
+    for (i = 0; i < FLO_MASKS; i++) masks[i] = i * 130003 % 1048575 + 1;
+    for (i = 0; i < FLO_SEEDS; i++) seeds[i] = b->mode == 0 || i < 32 ? i * 21001 % 1048575 + 1 : 0;
+    return flo_write_profile(masks, level, b->mode, b->k, seeds, b->profile, &b->profile_length);
+}
+
+/* A block of its own for each mode, k and number. */
+static void begin(struct block *b, int mode, int k, unsigned number) {
+    size_t i;
+    memset(b, PAINT, sizeof *b);
+    b->mode = (uint8_t)mode;
+    b->k = (uint8_t)k;
+    b->data_length = (size_t)k * FLO_PACKET_BYTES;
+    b->cells = (size_t)FLO_SYMBOLS(mode) * FLO_SYMBOL_CELLS;
+    for (i = 0; i < b->data_length; i++) b->data[i] = (uint8_t)(i * 73 + i / 251 + number * 17);
+    write_profile(b, 0.5f);
+}
+
+static uint32_t send_block(struct block *b) {
+    return flo_send(b->profile, b->profile_length, b->data, b->data_length, b->firsts, b->cells, b->seconds, b->cells);
+}
+
+static uint32_t receive(struct block *b, uint16_t marks) {
+    return flo_receive(b->profile, b->profile_length, marks, b->firsts, b->cells, b->seconds, b->cells, b->received, b->data_length, &b->lost,
+                       b->reasons);
+}
+
+static int came_back(const struct block *b) {
+    return memcmp(b->data, b->received, b->data_length) == 0;
+}
+
+static int is_painted(const void *memory, size_t bytes) {
+    const uint8_t *byte = (const uint8_t *)memory;
+    while (bytes > 0 && byte[bytes - 1] == PAINT) bytes--;
+    return bytes == 0;
+}
+
+static int no_answer(const struct block *b) {
+    unsigned p, sum = b->lost;
+    for (p = 0; p < FLO_PACKETS; p++) sum += b->reasons[p];
+    return sum == 0;
+}
+
+/* ---- where a packet is */
+
+/* The part that carries a bit of packet p as it goes out (after the bit interleaver): point i of a slot is a cell, bit 2i its first part. */
+static float *part_of(struct block *b, unsigned p, unsigned bit) {
+    unsigned slot = (b->mode == 0 ? 3 : 2) * p + bit / 1000, point = bit % 1000 / 2;
+    unsigned cell = slot / 7 * FLO_SYMBOL_CELLS + 49 + slot % 7 + 8 * point;
+    return bit % 2 == 0 ? &b->firsts[cell] : &b->seconds[cell];
+}
+
+/* The same for a coded bit, before the bit interleaver. */
+static float *part_of_coded(struct block *b, unsigned p, unsigned coded) {
+    unsigned rows = b->mode == 0 ? 750 : 500;
+    return part_of(b, p, 4 * (coded % rows) + coded / rows);
+}
+
+static void turn_over(float *part) {
+    *part = -*part;
+}
+
+/* Packet p of one grid in the place of another's. */
+static void copy_packet(struct block *to, struct block *from, unsigned p) {
+    unsigned bit, bits = to->mode == 0 ? 3000 : 2000;
+    for (bit = 0; bit < bits; bit++) *part_of(to, p, bit) = *part_of(from, p, bit);
+}
+
+/* ---- the tests */
+
+static struct block one, other;
+
+static void test_round_trip(int mode, int k) {
+    static float firsts[FLO_SYMBOL_CELLS], seconds[FLO_SYMBOL_CELLS];
+    const uint16_t marked = (uint16_t)((1u << (FLO_PACKETS - k)) - 1);
+    size_t symbol;
+    int same = 1;
+    begin(&one, mode, k, 0);
+    test("a profile's length", one.profile_length == (mode == 0 ? (size_t)FLO_MOST_PROFILE : 181));
+    test("a block is sent", send_block(&one) == FLO_DONE);
+    for (symbol = 0; symbol < (size_t)FLO_SYMBOLS(mode); symbol++) {
+        same = same && flo_send_symbol(one.profile, one.profile_length, one.data, one.data_length, symbol, firsts, FLO_SYMBOL_CELLS, seconds,
+                                       FLO_SYMBOL_CELLS) == FLO_DONE;
+        same = same && memcmp(firsts, one.firsts + symbol * FLO_SYMBOL_CELLS, sizeof firsts) == 0;
+        same = same && memcmp(seconds, one.seconds + symbol * FLO_SYMBOL_CELLS, sizeof seconds) == 0;
+    }
+    test("each symbol alone is that part of the grid", same);
+    test("no symbol after the last", flo_send_symbol(one.profile, one.profile_length, one.data, one.data_length, symbol, firsts, FLO_SYMBOL_CELLS,
+                                                     seconds, FLO_SYMBOL_CELLS) == FLO_NO_SUCH_SYMBOL);
+    test("it is received", receive(&one, 0) == FLO_DONE && came_back(&one) && no_answer(&one));
+    memset(one.received, PAINT, sizeof one.received);
+    test("as many packets as may be lost come back", receive(&one, marked) == FLO_DONE && came_back(&one) && one.lost == marked);
+}
+
+static void test_damage(int mode, int k) {
+    const unsigned x = mode == 0 ? 3 : 2; /* coded bit x * i is data bit i, and the one after it a parity bit */
+    begin(&one, mode, k, 1);
+    send_block(&one);
+    *part_of(&one, 0, 8) = 0.0f;
+    turn_over(part_of_coded(&one, 15, x * 992));
+    test("two packets are damaged, and found", receive(&one, 0) == FLO_DONE && one.lost == 0x8001 && came_back(&one));
+    test("a doubtful bit, a reserved bit", one.reasons[0] == FLO_DOUBTFUL && one.reasons[15] == FLO_RESERVED_BITS && one.reasons[7] == FLO_ACCEPTED);
+
+    send_block(&one);
+    turn_over(part_of_coded(&one, 5, x * 100));
+    turn_over(part_of_coded(&one, 6, x * 100 + 1));
+    test("two packets are damaged, and found", receive(&one, 0) == FLO_DONE && one.lost == 0x0060 && came_back(&one));
+    test("a data bit, a parity bit", one.reasons[5] == FLO_CHECK_WORD && one.reasons[6] == FLO_CODED_BITS);
+
+    memset(one.received, PAINT, sizeof one.received);
+    test("too many are lost", receive(&one, 0xFF80) == FLO_TOO_MANY_LOST && one.lost == 0xFFE0);
+    test("the reasons are given", one.reasons[4] == FLO_ACCEPTED && one.reasons[5] == FLO_CHECK_WORD && one.reasons[7] == FLO_MARKED);
+    test("the data room keeps what it held", is_painted(one.received, sizeof one.received));
+
+    send_block(&one);
+    begin(&other, mode, k, 2);
+    send_block(&other);
+    copy_packet(&one, &other, 3);
+    test("a good packet of another block", receive(&one, 0) == FLO_NO_CODEWORD && no_answer(&one));
+    test("the data room keeps what it held", is_painted(one.received, sizeof one.received));
+    test("it is lost by a mark", receive(&one, 8) == FLO_DONE && came_back(&one) && one.lost == 8 && one.reasons[3] == FLO_MARKED);
+}
+
+/* The profile as it is now is refused by this number: by all calls, with the lent memory kept and the answers zero. */
+static int is_refused(struct block *b, uint32_t number) {
+    uint32_t masks[FLO_MASKS], seeds[FLO_SEEDS], sum = 0;
+    uint8_t mode = PAINT, k = PAINT;
+    float level = 1.0f;
+    unsigned i;
+    memset(masks, PAINT, sizeof masks);
+    memset(seeds, PAINT, sizeof seeds);
+    if (flo_read_profile(b->profile, b->profile_length, masks, &level, &mode, &k, seeds) != number) return 0;
+    for (i = 0; i < FLO_MASKS; i++) sum |= masks[i];
+    for (i = 0; i < FLO_SEEDS; i++) sum |= seeds[i];
+    b->lost = 0xA5A5;
+    memset(b->reasons, PAINT, sizeof b->reasons);
+    return sum == 0 && mode == 0 && k == 0 && level == 0.0f && send_block(b) == number && receive(b, 0xFFFF) == number && no_answer(b) &&
+           is_painted(b->firsts, sizeof b->firsts) && is_painted(b->seconds, sizeof b->seconds) && is_painted(b->received, sizeof b->received);
+}
+
+static void test_refusals(int mode, int k) {
+    static uint8_t block[FLO_BLOCK_BYTES + 1];
+    struct block *b = &one;
+
+    begin(b, mode, k, 3);
+    b->profile_length -= 1;
+    test("a profile that ends inside a field", is_refused(b, FLO_CUT_IN_FIELD));
+    begin(b, mode, k, 3);
+    b->profile[0] = 2;
+    test("a wrong tag", is_refused(b, FLO_WRONG_TAG));
+    begin(b, mode, k, 3);
+    b->profile[2] = 33;
+    test("a wrong length", is_refused(b, FLO_WRONG_LENGTH));
+    begin(b, mode, k, 3);
+    b->profile[3] = 1;
+    test("a mask outside its range", is_refused(b, FLO_OUT_OF_RANGE));
+    begin(b, mode, k, 3);
+    b->profile_length = 35;
+    test("a profile that ends between fields", is_refused(b, FLO_FIELD_MISSING));
+    begin(b, mode, k, 3);
+    b->profile_length = 7;
+    memset(b->profile, PAINT, sizeof b->profile);
+    test("a level outside its range", write_profile(b, -1.0f) == FLO_OUT_OF_RANGE && b->profile_length == 0 && b->profile[0] == 0);
+
+    begin(b, mode, k, 3);
+    b->data_length -= 1;
+    test("data a byte short", send_block(b) == FLO_DATA_LENGTH && receive(b, 0xFFFF) == FLO_DATA_LENGTH && no_answer(b));
+    b->data_length += 2;
+    test("data a byte long", send_block(b) == FLO_DATA_LENGTH && receive(b, 0xFFFF) == FLO_DATA_LENGTH && no_answer(b));
+    b->data_length -= 1;
+    b->cells -= 1;
+    test("cells that are too few", send_block(b) == FLO_CELLS_LENGTH && receive(b, 0xFFFF) == FLO_CELLS_LENGTH && no_answer(b));
+    test("lent memory is kept", is_painted(b->firsts, sizeof b->firsts) && is_painted(b->received, sizeof b->received));
+
+    memset(block, PAINT, sizeof block);
+    test("parity of another k", flo_parity(9, block, FLO_BLOCK_BYTES) == FLO_OUT_OF_RANGE);
+    test("parity of another length", flo_parity(b->k, block, FLO_BLOCK_BYTES + 1) == FLO_DATA_LENGTH);
+    test("the block is kept", is_painted(block, sizeof block));
+    test("parity", flo_parity(b->k, block, FLO_BLOCK_BYTES) == FLO_DONE && is_painted(block, (size_t)k * FLO_PACKET_BYTES));
+}
+
+/* ---- several threads at once: each has a block of its own, sends and receives it again and again, and must find what it found alone */
+
+struct worker {
+    struct block alone, now;
+    int is_right;
+};
+
+static int same_block(const struct block *a, const struct block *b) {
+    return memcmp(a, b, sizeof *a) == 0;
+}
+
+static int run_block(struct block *b, int number) {
+    begin(b, number % 2, number < 2 ? 8 : 14, (unsigned)number);
+    if (send_block(b) != FLO_DONE) return 0;
+    turn_over(part_of(b, (unsigned)number, 500));
+    return receive(b, 0x8000) == FLO_DONE && came_back(b);
+}
+
+static void *work(void *memory) {
+    struct worker *w = (struct worker *)memory;
+    int turn, number = w->is_right;
+    w->is_right = 1;
+    for (turn = 0; turn < TURNS; turn++) w->is_right = w->is_right && run_block(&w->now, number) && same_block(&w->now, &w->alone);
+    return NULL;
+}
+
+static void test_threads(void) {
+    static struct worker workers[THREADS];
+    pthread_t threads[THREADS];
+    int i;
+    for (i = 0; i < THREADS; i++) test("alone", run_block(&workers[i].alone, i));
+    for (i = 0; i < THREADS; i++) {
+        workers[i].is_right = i;
+        if (pthread_create(&threads[i], NULL, work, &workers[i]) != 0) {
+            test("a thread", 0);
+            return;
+        }
+    }
+    for (i = 0; i < THREADS; i++) {
+        pthread_join(threads[i], NULL);
+        test("beside other threads as alone", workers[i].is_right);
+    }
+}
+
+/* ---- the stack: each call on a thread whose stack has FLO_STACK bytes and nothing below them */
+
+static struct block small;
+
+static void *nothing(void *number) {
+    return number;
+}
+
+static void *call_send(void *number) {
+    *(uint32_t *)number = send_block(&small);
+    return number;
+}
+
+static void *call_send_symbol(void *number) {
+    *(uint32_t *)number = flo_send_symbol(small.profile, small.profile_length, small.data, small.data_length, 0, small.firsts, FLO_SYMBOL_CELLS,
+                                          small.seconds, FLO_SYMBOL_CELLS);
+    return number;
+}
+
+static void *call_receive(void *number) {
+    *(uint32_t *)number = receive(&small, (uint16_t)((1u << (FLO_PACKETS - small.k)) - 1));
+    return number;
+}
+
+static void *call_read_profile(void *number) {
+    static uint32_t masks[FLO_MASKS], seeds[FLO_SEEDS];
+    static float level;
+    static uint8_t mode, k;
+    *(uint32_t *)number = flo_read_profile(small.profile, small.profile_length, masks, &level, &mode, &k, seeds);
+    return number;
+}
+
+static void *call_write_profile(void *number) {
+    *(uint32_t *)number = write_profile(&small, 0.5f);
+    return number;
+}
+
+static void *call_parity(void *number) {
+    static uint8_t block[FLO_BLOCK_BYTES];
+    *(uint32_t *)number = flo_parity(small.k, block, FLO_BLOCK_BYTES);
+    return number;
+}
+
+/* How many bytes of such a stack a thread wrote to; 0 where it couldn't be made or the call was refused. Below the stack nothing may be touched. */
+static size_t stack_of(void *(*call)(void *)) {
+    const size_t below = 65536;
+    uint32_t number = FLO_DONE;
+    pthread_attr_t attr;
+    pthread_t thread;
+    size_t untouched = 0;
+    uint8_t *room = (uint8_t *)mmap(NULL, below + FLO_STACK, PROT_READ | PROT_WRITE, MAP_PRIVATE | MAP_ANONYMOUS, -1, 0);
+    if (room == (uint8_t *)MAP_FAILED || mprotect(room, below, PROT_NONE) != 0) return 0;
+    memset(room + below, PAINT, FLO_STACK);
+    if (pthread_attr_init(&attr) != 0 || pthread_attr_setstack(&attr, room + below, FLO_STACK) != 0) return 0;
+    if (pthread_create(&thread, &attr, call, &number) != 0) return 0;
+    pthread_join(thread, NULL);
+    pthread_attr_destroy(&attr);
+    while (untouched < FLO_STACK && room[below + untouched] == PAINT) untouched++;
+    munmap(room, below + FLO_STACK);
+    return number == FLO_DONE ? FLO_STACK - untouched : 0;
+}
+
+static void test_stack(void) {
+    static const struct {
+        const char *name;
+        void *(*call)(void *);
+    } calls[] = {
+        {"flo_send", call_send},
+        {"flo_send_symbol", call_send_symbol},
+        {"flo_receive", call_receive},
+        {"flo_read_profile", call_read_profile},
+        {"flo_write_profile", call_write_profile},
+        {"flo_parity", call_parity},
+    };
+    static const uint8_t ks[] = {8, 12, 14};
+    const size_t thread = stack_of(nothing);
+    size_t i, j;
+    printf("stack in bytes, beside the %lu of a thread that does nothing:", (unsigned long)thread);
+    for (i = 0; i < sizeof calls / sizeof calls[0]; i++) {
+        size_t most = 0;
+        for (j = 0; j < 6; j++) {
+            size_t used;
+            begin(&small, (int)(j % 2), ks[j / 2], 4);
+            send_block(&small);
+            used = stack_of(calls[i].call);
+            test(calls[i].name, used > 0);
+            if (used > most) most = used;
+        }
+        printf(" %s %lu", calls[i].name, (unsigned long)(most - thread));
+    }
+    printf("\n");
+}
+
+int main(void) {
+    static const int ks[] = {8, 12, 14};
+    int i;
+    test("the sizes agree", FLO_BLOCK_BYTES == FLO_PACKETS * FLO_PACKET_BYTES && FLO_MOST_DATA == 14 * FLO_PACKET_BYTES &&
+                                FLO_MOST_SYMBOLS == FLO_SYMBOLS(0));
+    for (i = 0; i < 6; i++) {
+        test_round_trip(i % 2, ks[i / 2]);
+        test_damage(i % 2, ks[i / 2]);
+        test_refusals(i % 2, ks[i / 2]);
+    }
+    test_threads();
+    test_stack();
+    printf("%d passed, %d failed\n", passed, failed);
+    return failed != 0;
+}
