@@ -8,6 +8,9 @@ use super::scan;
 use super::scan::Run;
 use rules::Profile;
 
+// No text has more numbers than it may have bytes.
+const MOST: usize = 16_384;
+
 // What is wrong, if anything.
 pub enum Fault {
     Fine,
@@ -17,6 +20,7 @@ pub enum Fault {
     OutOfRange,
     TooMany,
     TooFew,
+    Empty,
     Twice,
     Missing,
 }
@@ -38,7 +42,7 @@ pub struct Draft {
     pub to: usize,
 }
 
-// The draft, the number of the line that was read last, and where that line starts.
+// The draft, the number of the line that its mistake is in, 0 where it is in none, and where the line that was read last starts.
 pub struct Read {
     pub draft: Draft,
     pub line: usize,
@@ -77,7 +81,7 @@ fn marked(d: Draft, fault: Fault, field: usize, from: usize, to: usize) -> Draft
     }
 }
 
-// One number more of a field.
+// One number more of a field; those after the most that it has are only counted.
 fn stored(mut d: Draft, f: usize, x: u32) -> Draft
     requires { ⌜ f < 5 ⌝ }
 {
@@ -85,6 +89,8 @@ fn stored(mut d: Draft, f: usize, x: u32) -> Draft
     if n < fields::most(f) {
         let place = fields::first(f) + n;
         d.values[place] = x;
+    }
+    if n < MOST {
         d.counts[f] = n + 1;
     }
     d
@@ -99,11 +105,8 @@ fn value(f: usize, word: &[u8]) -> Number {
     }
 }
 
-// Judges a word as one number more of a field that has n so far.
-fn judge(f: usize, n: usize, word: &[u8]) -> Judged {
-    if fields::most(f) <= n {
-        return Judged::Bad(Fault::TooMany);
-    }
+// Judges a word as a number of a field.
+fn judge(f: usize, word: &[u8]) -> Judged {
     match value(f, word) {
         Number::Is(x) => {
             if fields::in_range(f, x) {
@@ -121,7 +124,7 @@ fn judge(f: usize, n: usize, word: &[u8]) -> Judged {
 fn with_word(d: Draft, f: usize, s: &[u8], from: usize, to: usize) -> Draft
     requires { ⌜ (f < 5) × (from ≤ to) × (to ≤ length (now s)) ⌝ }
 {
-    match judge(f, d.counts[f], &s[from..to]) {
+    match judge(f, &s[from..to]) {
         Judged::Good(x) => stored(d, f, x),
         Judged::Bad(fault) => marked(d, fault, f, from, to),
     }
@@ -144,10 +147,24 @@ fn with_words(d: Draft, f: usize, s: &[u8], at: usize) -> Draft
     d
 }
 
-// Whether a line leaves too few numbers of a field, which had `old` before it and has `new` now: seeds may go on in another line.
-fn shortage(f: usize, old: usize, new: usize) -> Fault {
-    if new == old || f != fields::SEEDS && new < fields::most(f) {
+// Whether n numbers are as many as are due.
+fn counted(n: usize, due: usize) -> Fault {
+    if due < n {
+        Fault::TooMany
+    } else if n < due {
         Fault::TooFew
+    } else {
+        Fault::Fine
+    }
+}
+
+// Whether a line leaves a field as it should, which had `old` numbers before it and has `new` now: seeds may go on in another line.
+fn counted_in_line(f: usize, old: usize, new: usize) -> Fault {
+    if f != fields::SEEDS {
+        return counted(new, fields::most(f));
+    }
+    if new == old {
+        Fault::Empty
     } else {
         Fault::Fine
     }
@@ -166,7 +183,7 @@ fn with_numbers(d: Draft, f: usize, s: &[u8], at: usize) -> Draft
         return d;
     }
     let new = d.counts[f];
-    marked(d, shortage(f, old, new), f, 0, 0)
+    marked(d, counted_in_line(f, old, new), f, 0, 0)
 }
 
 // The draft with a line, without its comment.
@@ -197,31 +214,31 @@ fn missing(d: Draft) -> usize
     f
 }
 
-// Whether there are as many seeds as the mode has.
-fn counted(mode: u32, n: usize) -> Fault {
-    let due = fields::seeds(mode);
-    if due < n {
-        Fault::TooMany
-    } else if n < due {
-        Fault::TooFew
+// Whether the text gives the mode.
+pub fn has_mode(d: Draft) -> bool {
+    d.counts[fields::MODE] != 0
+}
+
+// How many seeds there should be: in either mode at most, where the text gives none.
+pub fn due_seeds(d: Draft) -> usize
+    ensures { λ r. ⌜ r ≤ 48 ⌝ }
+{
+    if has_mode(d) {
+        fields::seeds(d.values[fields::MODE_AT])
     } else {
-        Fault::Fine
+        fields::most(fields::SEEDS)
     }
 }
 
-// The draft at the end of the text.
+// The draft at the end of the text: first what is too much, then what is missing, then what is too little.
 fn ended(d: Draft) -> Draft {
+    let n = d.counts[fields::SEEDS];
+    let due = due_seeds(d);
     let f = missing(d);
-    if f < fields::FIELDS {
+    if f < fields::FIELDS && n <= due {
         return marked(d, Fault::Missing, f, 0, 0);
     }
-    marked(
-        d,
-        counted(d.values[fields::MODE_AT], d.counts[fields::SEEDS]),
-        fields::SEEDS,
-        0,
-        0,
-    )
+    marked(d, counted(n, due), fields::SEEDS, 0, 0)
 }
 
 // Reads a text, line by line, up to the first mistake.
@@ -242,11 +259,12 @@ pub fn read_text(text: &[u8]) -> Read {
                 start,
             };
         }
-        at = scan::end_of(Run::Line, text, e) + 1;
+        let end = scan::end_of(Run::Line, text, e);
+        at = scan::after_end(text, end);
     }
     Read {
         draft: ended(d),
-        line,
+        line: 0,
         start,
     }
 }

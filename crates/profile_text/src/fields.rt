@@ -1,6 +1,6 @@
 // The fields of a text, by number: what they are called, how many numbers each has, the place of its first one among all 59, its range.
 ghost use Prim.Native.Nat.{_≤_};
-use super::scan::same;
+use manners::same;
 
 pub const FIELDS: usize = 5;
 

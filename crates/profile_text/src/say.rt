@@ -1,8 +1,12 @@
 // The tool's messages, in plain words.
+use super::draft;
 use super::draft::Draft;
 use super::draft::Fault;
 use super::fields;
-use super::put;
+use manners::put;
+
+// Room for a message.
+const ROOM: usize = 256;
 
 // At most so many bytes of a word are shown.
 const SHOWN: usize = 40;
@@ -32,18 +36,37 @@ fn range(out: &mut [u8], at: usize, f: usize) -> usize {
     }
 }
 
-// How many numbers a field has.
-fn due(out: &mut [u8], at: usize, f: usize) -> usize {
-    match f {
-        0 => put::bytes(out, at, b"8"),
-        1 | 2 | 3 => put::bytes(out, at, b"1"),
-        _ => put::bytes(out, at, b"48 in mode 0, 32 in mode 1"),
+// How many seeds there should be.
+fn due_seeds(out: &mut [u8], at: usize, d: Draft) -> usize {
+    if !draft::has_mode(d) {
+        put::bytes(out, at, b"48 in mode 0, 32 in mode 1")
+    } else if draft::due_seeds(d) == fields::seeds(0) {
+        put::bytes(out, at, b"48 in mode 0")
+    } else {
+        put::bytes(out, at, b"32 in mode 1")
     }
 }
 
-// The start of a message: the line's number.
-fn line(out: &mut [u8], n: usize) -> usize {
-    let at = put::bytes(out, 0, b"line ");
+// How many numbers a field should have.
+fn due(out: &mut [u8], at: usize, f: usize, d: Draft) -> usize {
+    if f == fields::SEEDS {
+        due_seeds(out, at, d)
+    } else {
+        put::decimal(out, at, fields::most(f) as u64)
+    }
+}
+
+// How many numbers a field has.
+fn given(d: Draft, f: usize) -> usize {
+    if f < fields::FIELDS { d.counts[f] } else { 0 }
+}
+
+// The start of a message: the program and the line's number, 0 where no line is at fault.
+fn place(out: &mut [u8], n: usize) -> usize {
+    if n == 0 {
+        return put::bytes(out, 0, b"profile_text: text: ");
+    }
+    let at = put::bytes(out, 0, b"profile_text: line ");
     let at = put::decimal(out, at, n as u64);
     put::bytes(out, at, b": ")
 }
@@ -63,7 +86,7 @@ fn shown(s: &[u8], from: usize, to: usize) -> &[u8] {
 // A word in quotes, and what is wrong with it.
 fn word(out: &mut [u8], at: usize, s: &[u8], what: &[u8]) -> usize {
     let at = put::bytes(out, at, b"\"");
-    let at = put::bytes(out, at, s);
+    let at = put::foreign(out, at, s);
     put::bytes(out, at, what)
 }
 
@@ -73,17 +96,35 @@ fn outside(out: &mut [u8], at: usize, f: usize, s: &[u8]) -> usize {
     range(out, at, f)
 }
 
-// How many numbers there should be.
-fn should(out: &mut [u8], at: usize, f: usize, s: &[u8]) -> usize {
+// A word that is no number, and what is one.
+fn no_number(out: &mut [u8], at: usize, f: usize, s: &[u8]) -> usize {
+    let at = word(
+        out,
+        at,
+        s,
+        b"\" is not a number, a plain decimal or 0x number is due",
+    );
+    if f == fields::LEVEL {
+        at
+    } else {
+        put::bytes(out, at, b", with no point")
+    }
+}
+
+// How many numbers there are, and how many there should be.
+fn counts(out: &mut [u8], at: usize, f: usize, d: Draft, s: &[u8]) -> usize {
     let at = put::bytes(out, at, s);
-    let at = put::bytes(out, at, b" numbers, there should be ");
-    due(out, at, f)
+    let at = put::bytes(out, at, b" numbers, there are ");
+    let at = put::decimal(out, at, given(d, f) as u64);
+    let at = put::bytes(out, at, b" and there should be ");
+    due(out, at, f, d)
 }
 
 // A mistake; s is the word that it speaks of.
-fn what(out: &mut [u8], at: usize, fault: Fault, f: usize, s: &[u8]) -> usize {
+fn what(out: &mut [u8], at: usize, d: Draft, f: usize, s: &[u8]) -> usize {
+    let fault = d.fault;
     match fault {
-        Fault::NotNumber => word(out, at, s, b"\" is not a number"),
+        Fault::NotNumber => no_number(out, at, f, s),
         Fault::Long => word(
             out,
             at,
@@ -91,8 +132,9 @@ fn what(out: &mut [u8], at: usize, fault: Fault, f: usize, s: &[u8]) -> usize {
             b"\" has more than 7 digits, or more than 10 after the point",
         ),
         Fault::OutOfRange => outside(out, at, f, s),
-        Fault::TooMany => should(out, at, f, b"too many"),
-        Fault::TooFew => should(out, at, f, b"too few"),
+        Fault::TooMany => counts(out, at, f, d, b"too many"),
+        Fault::TooFew => counts(out, at, f, d, b"too few"),
+        Fault::Empty => put::bytes(out, at, b"no number in this line"),
         Fault::Twice => put::bytes(out, at, b"given twice"),
         Fault::Missing => put::bytes(out, at, b"missing"),
         _ => word(
@@ -113,36 +155,19 @@ fn of_field(out: &mut [u8], at: usize, f: usize) -> usize {
     put::bytes(out, at, b": ")
 }
 
-// A text's first mistake, in line n; s is the text from that line on.
-pub fn mistake(out: &mut [u8], n: usize, d: Draft, s: &[u8]) -> usize {
-    let at = line(out, n);
-    let at = of_field(out, at, d.field);
-    let fault = d.fault;
-    let at = what(out, at, fault, d.field, shown(s, d.from, d.to));
-    put::bytes(out, at, b"\n")
+// Says a text's first mistake, in line n; s is the text from that line on.
+pub fn mistake(n: usize, d: Draft, s: &[u8]) {
+    let mut out = [0u8; ROOM];
+    let at = place(&mut out, n);
+    let at = of_field(&mut out, at, d.field);
+    let at = what(&mut out, at, d, d.field, shown(s, d.from, d.to));
+    put::say(&mut out, at);
 }
 
-// A text that is too long.
-pub fn too_long(out: &mut [u8]) -> usize {
-    put::bytes(out, 0, b"line 0: the text is longer than 16384 bytes\n")
-}
-
-// What document 01 says of a refusal's number.
-fn meaning(out: &mut [u8], at: usize, number: u32) -> usize {
-    match number {
-        1 => put::bytes(out, at, b"profile ends inside a field"),
-        2 => put::bytes(out, at, b"tag other than the one due"),
-        3 => put::bytes(out, at, b"declared length wrong"),
-        4 => put::bytes(out, at, b"value outside its range"),
-        _ => put::bytes(out, at, b"profile ends between fields with one due"),
-    }
-}
-
-// A refusal.
-pub fn refused(out: &mut [u8], number: u32) -> usize {
-    let at = put::bytes(out, 0, b"refused: ");
-    let at = put::decimal(out, at, number as u64);
-    let at = put::bytes(out, at, b" ");
-    let at = meaning(out, at, number);
-    put::bytes(out, at, b"\n")
+// Says that a text is too long.
+pub fn too_long() {
+    let mut out = [0u8; ROOM];
+    let at = place(&mut out, 0);
+    let at = put::bytes(&mut out, at, b"longer than 16384 bytes");
+    put::say(&mut out, at);
 }

@@ -1,5 +1,5 @@
 // Where the runs of a text end: blanks, words, lines, what stands before a comment, the digits before a point.
-ghost use Prim.Native.Nat.{_≤_};
+ghost use Prim.Native.Nat.{_≤_, _<_};
 ghost use lib.ListN.{length};
 
 // The kinds of runs.
@@ -11,9 +11,13 @@ pub enum Run {
     Whole,
 }
 
-// A blank is a space, a tab, or the carriage return that some editors put at a line's end.
 fn is_blank(b: u8) -> bool {
-    b == b' ' || b == b'\t' || b == b'\r'
+    b == b' ' || b == b'\t'
+}
+
+// Editors end a line with a newline, a carriage return, or a carriage return and a newline.
+fn is_end(b: u8) -> bool {
+    b == b'\n' || b == b'\r'
 }
 
 // Whether a run goes on over this byte.
@@ -21,8 +25,8 @@ fn goes_on(run: Run, b: u8) -> bool {
     match run {
         Run::Blanks => is_blank(b),
         Run::Word => !is_blank(b),
-        Run::Code => b != b'#' && b != b'\n',
-        Run::Line => b != b'\n',
+        Run::Code => b != b'#' && !is_end(b),
+        Run::Line => !is_end(b),
         Run::Whole => b != b'.',
     }
 }
@@ -42,17 +46,29 @@ pub fn end_of(run: Run, s: &[u8], at: usize) -> usize
     i
 }
 
-// Whether two words are the same.
-pub fn same(a: &[u8], b: &[u8]) -> bool {
-    if a.len() != b.len() {
-        return false;
-    }
-    let mut i = 0;
-    while i < a.len() {
-        if a[i] != b[i] {
-            return false;
+// The place after the line's end that stands at a position: a carriage return and a newline together are one.
+pub fn after_end(s: &[u8], at: usize) -> usize
+    requires { ⌜ at ≤ length (now s) ⌝ }
+    ensures { λ r. ⌜ at < r ⌝ }
+{
+    if at + 1 < s.len() {
+        if s[at] == b'\r' && s[at + 1] == b'\n' {
+            return at + 2;
         }
-        i += 1;
     }
-    true
+    at + 1
+}
+
+// Where a text starts: after the byte order mark that some editors put before it.
+pub fn start(s: &[u8]) -> usize
+    ensures { λ r. ⌜ r ≤ length (now (s .entry)) ⌝ }
+{
+    if s.len() < 3 {
+        return 0;
+    }
+    if s[0] == 0xEF && s[1] == 0xBB && s[2] == 0xBF {
+        3
+    } else {
+        0
+    }
 }

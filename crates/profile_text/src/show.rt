@@ -1,8 +1,8 @@
 // A profile as text.
 ghost use Prim.Native.Nat.{_≤_};
 use super::fields;
-use super::put;
 use super::say;
+use manners::put;
 use rules::Profile;
 
 // So many seeds a line.

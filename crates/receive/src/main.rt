@@ -1,13 +1,25 @@
 // Receives one block. Standard input: two bytes of profile length, the profile, a mark mask of two bytes, then for each symbol 4096 first
-// parts and 4096 second parts, four bytes each, all high byte first. Standard output: number and lost mask, then each packet and its reason.
-// Where the number is 0 and there is an argument, the data goes to the file that it names. Of the cells it holds one symbol's at a time.
+// parts and 4096 second parts, four bytes each, all high byte first. Standard output: number and lost mask, then each packet and its reason;
+// what a number other than 0 means goes to standard error. Where the number is 0 and there is an argument, the data goes to the file that it
+// names. Of the cells it holds one symbol's at a time.
+mod file;
+
 ghost use Prim.Native.Nat.{_*_, _≤_};
 ghost use lib.ListN.{length};
 use libc::STDIN_FILENO;
-use libc::STDOUT_FILENO;
-use receiving::Hearing;
+use manners::Request;
+use manners::put;
 use rules::Profile;
 use rules::Receipt;
+
+// No number of document 01: the input can't be read, which was said.
+const UNREAD: u32 = u32::MAX;
+
+// Bytes of one symbol's first parts, or second parts.
+const PARTS: usize = 16_384;
+
+// Room for the report.
+const ROOM: usize = 256;
 
 // Two bytes of the input as a number, or it ended before.
 enum Two {
@@ -15,8 +27,11 @@ enum Two {
     Cut,
 }
 
-fn pair(high: u8, low: u8) -> u16 {
-    high as u16 * 256 + low as u16
+// The block's bits so far, the number, and how many bytes of cells came.
+struct Heard {
+    number: u32,
+    bits: [u8; 48000],
+    came: usize,
 }
 
 fn read_pair() -> Two {
@@ -24,7 +39,7 @@ fn read_pair() -> Two {
     if io::read_full(STDIN_FILENO, &mut two) != 2 {
         return Two::Cut;
     }
-    Two::Whole(pair(two[0], two[1]))
+    Two::Whole(manners::pair(two[0], two[1]))
 }
 
 // The parts that the bytes spell, four each.
@@ -37,50 +52,96 @@ fn gather(bytes: &[u8], list: &mut [f32])
     }
 }
 
-// Reads one symbol's first or second parts, and answers whether they all came.
-fn read_parts(list: &mut [f32]) -> bool
+// Reads one symbol's first or second parts, and answers how many bytes came.
+fn read_parts(list: &mut [f32]) -> usize
     requires { ⌜ length (now list) ≤ 4096 ⌝ }
+    ensures { λ r. ⌜ r ≤ 16384 ⌝ }
 {
-    let mut bytes = [0u8; 16384];
-    if io::read_full(STDIN_FILENO, &mut bytes) != 16384 {
-        return false;
+    let mut bytes = [0u8; PARTS];
+    let n = io::read_full(STDIN_FILENO, &mut bytes);
+    if n == PARTS {
+        gather(&bytes, list);
     }
-    gather(&bytes, list);
-    true
+    n
+}
+
+// The number for cells that did not all come: the input ended, or can't be read.
+fn cut() -> u32 {
+    if manners::is_unread(b"receive") {
+        UNREAD
+    } else {
+        7
+    }
 }
 
 // Reads one symbol, and hears it.
-fn hear_one(p: Profile, y: usize, bits: [u8; 48000]) -> Hearing {
+fn hear_one(p: Profile, y: usize, bits: [u8; 48000]) -> Heard
+    ensures { λ r. ⌜ r .came ≤ 32768 ⌝ }
+{
     let mut firsts = [0f32; 4096];
     let mut seconds = [0f32; 4096];
-    if !read_parts(&mut firsts) {
-        return Hearing { number: 7, bits };
+    let first = read_parts(&mut firsts);
+    if first != PARTS {
+        return Heard {
+            number: cut(),
+            bits,
+            came: first,
+        };
     }
-    if !read_parts(&mut seconds) {
-        return Hearing { number: 7, bits };
+    let second = read_parts(&mut seconds);
+    let came = PARTS + second;
+    if second != PARTS {
+        return Heard {
+            number: cut(),
+            bits,
+            came,
+        };
     }
-    receiving::hear(p, y, &firsts, &seconds, bits)
+    let h = receiving::hear(p, y, &firsts, &seconds, bits);
+    let bits = h.bits;
+    Heard {
+        number: h.number,
+        bits,
+        came,
+    }
 }
 
 // The symbols in their order, up to a refusal.
-fn hear_all(p: Profile, none: [u8; 48000]) -> Hearing {
+fn hear_all(p: Profile, none: [u8; 48000]) -> Heard {
     let n = block::symbol_count(p.mode);
     let mut bits = none;
+    let mut came: usize = 0;
     for y in 0..n {
         let h = hear_one(p, y, bits);
-        if h.number != 0 {
-            return h;
-        }
         let next = h.bits;
         bits = next;
+        came = 2 * PARTS * y + h.came;
+        if h.number != 0 {
+            return Heard {
+                number: h.number,
+                bits,
+                came,
+            };
+        }
     }
-    Hearing { number: 0, bits }
+    Heard {
+        number: 0,
+        bits,
+        came,
+    }
 }
 
-// Whether the input has ended.
-fn at_end() -> bool {
+// What comes after the cells: 0 where the input ended.
+fn after_cells() -> u32 {
     let mut one = [0u8; 1];
-    io::read_full(STDIN_FILENO, &mut one) == 0
+    if io::read_full(STDIN_FILENO, &mut one) != 0 {
+        return 7;
+    }
+    if manners::is_unread(b"receive") {
+        UNREAD
+    } else {
+        0
+    }
 }
 
 // Writes the data to the file that the argument names, where there is one.
@@ -91,18 +152,9 @@ fn keep(data: &[u8]) {
     let mut path = io::buffer();
     let n = os::arg(1, &mut path);
     if os::errno() != 0 {
-        os::fail(b"file");
-        return;
+        return manners::cannot(b"receive", b"write FILE");
     }
-    let file = os::open_overwrite(&path[..n]);
-    if file < 0 {
-        os::fail(&path[..n]);
-        return;
-    }
-    if !io::write_all(file, data) {
-        os::fail(&path[..n]);
-    }
-    libc::close(file);
+    file::keep(&path[..n], data);
 }
 
 // A refusal: its number, mask and reasons zero.
@@ -114,23 +166,68 @@ fn silence(number: u32) -> Receipt {
     }
 }
 
+// A refusal of the profile.
+fn refused(number: u32) -> Receipt {
+    manners::refuse(number);
+    silence(number)
+}
+
+// Input that ends before the mark mask does is refused, unless it did not end.
+fn stopped() -> Receipt {
+    if manners::is_unread(b"receive") {
+        return silence(UNREAD);
+    }
+    manners::refuse_short_input(1, b"the mark mask does");
+    silence(1)
+}
+
+// Says why the cells gave no data, where it was not said yet.
+fn say_cells(number: u32, came: usize, due: usize) {
+    if number == 7 && came < due {
+        manners::refuse_length(number, came as u64, due as u64);
+    } else if number == 7 {
+        manners::refuse_surplus(number, due as u64, due as u64);
+    } else if number != UNREAD {
+        manners::refuse(number);
+    }
+}
+
+fn wide(x: u32) -> u64 {
+    x as u64
+}
+
+// Says why the packets gave no data.
+fn say_lost(receipt: Receipt, k: u8) {
+    if receipt.number == 9 && k <= 16 {
+        manners::refuse_lost(9, wide(u16::count_ones(receipt.lost)), (16 - k) as u64);
+    } else {
+        manners::refuse(receipt.number);
+    }
+}
+
 // Judges what was heard, and keeps the data.
 fn judge(p: Profile, marks: u16, bits: [u8; 48000], data: &mut [u8]) -> Receipt {
     let receipt = receiving::conclude(p, marks, bits, data);
     if receipt.number == 0 {
         keep(data);
+    } else {
+        say_lost(receipt, p.k);
     }
     receipt
 }
 
 // Reads the cells, and judges them.
 fn receive_cells(p: Profile, marks: u16) -> Receipt {
+    let due = 2 * PARTS * block::symbol_count(p.mode);
     let h = hear_all(p, [0u8; 48000]);
-    if h.number != 0 {
-        return silence(h.number);
-    }
-    if !at_end() {
-        return silence(7);
+    let number = if h.number == 0 {
+        after_cells()
+    } else {
+        h.number
+    };
+    if number != 0 {
+        say_cells(number, h.came, due);
+        return silence(number);
     }
     let bits = h.bits;
     let mut data = [0u8; 1708];
@@ -141,14 +238,14 @@ fn receive_cells(p: Profile, marks: u16) -> Receipt {
 // Reads the profile to its place and the mark mask, then judges the profile, then the cells.
 fn receive_by(bytes: &mut [u8]) -> Receipt {
     if io::read_full(STDIN_FILENO, bytes) != bytes.len() {
-        return silence(1);
+        return stopped();
     }
     let Two::Whole(marks) = read_pair() else {
-        return silence(1);
+        return stopped();
     };
     let reading = profile::read(bytes);
     if reading.number != 0 {
-        return silence(reading.number);
+        return refused(reading.number);
     }
     let p = reading.profile;
     receive_cells(p, marks)
@@ -156,30 +253,73 @@ fn receive_by(bytes: &mut [u8]) -> Receipt {
 
 fn receive() -> Receipt {
     let Two::Whole(length) = read_pair() else {
-        return silence(1);
+        return stopped();
     };
     let mut bytes = [0u8; 65536];
     let n = io::count(length as isize, &bytes);
     receive_by(&mut bytes[..n])
 }
 
-// Two numbers, on a line.
-fn print_line(a: u64, b: u64) {
-    io::print_decimal(STDOUT_FILENO, a);
-    io::write_all(STDOUT_FILENO, b" ");
-    io::print_decimal(STDOUT_FILENO, b);
-    io::write_all(STDOUT_FILENO, b"\n");
+// Two numbers, as a line of the report.
+fn line(out: &mut [u8], at: usize, a: u64, b: u64) -> usize {
+    let at = put::decimal(out, at, a);
+    let at = put::bytes(out, at, b" ");
+    let at = put::decimal(out, at, b);
+    put::bytes(out, at, b"\n")
 }
 
-fn print_reasons(reasons: [u8; 16]) {
+// A line for each packet.
+fn reason_lines(out: &mut [u8], at: usize, reasons: [u8; 16]) -> usize {
+    let mut at = at;
     for p in 0..16 {
-        print_line(p as u64, reasons[p] as u64);
+        at = line(out, at, p as u64, reasons[p] as u64);
+    }
+    at
+}
+
+fn report(receipt: Receipt) {
+    let mut out = [0u8; ROOM];
+    let at = line(&mut out, 0, receipt.number as u64, receipt.lost as u64);
+    let reasons = receipt.reasons;
+    let n = reason_lines(&mut out, at, reasons);
+    manners::write_part(b"receive", &out, n);
+}
+
+// Receives, and reports, unless the input can't be read.
+fn run() {
+    let receipt = receive();
+    if receipt.number != UNREAD {
+        report(receipt);
     }
 }
 
+fn help() {
+    manners::write(
+        b"receive",
+        b"receive [FILE] < input > report
+
+Receives one block of MediaFLO cells by hard decisions.
+
+Standard input    two bytes of profile length, the profile, a mark mask of two bytes (bit p: packet p counts as lost), then for each
+                  symbol (7 in mode 0, 5 in mode 1) its 4096 first parts and its 4096 second parts, each an f32 of four bytes; all
+                  numbers high byte first. profile_text makes a profile.
+Standard output   17 lines: the number and the lost mask, then each packet and the reason why it was lost (0: it was not), all decimal.
+FILE              at number 0 the data, 122 x K bytes. It is made beside FILE and takes its name when it is whole.
+                  For a name that begins with a dash say ./-name.
+Standard error    what a number other than 0 means. Trouble: what can't be read or written.
+
+bin/receive ends with 0 when the number is 0, 1 at any other number, 2 for a wrong use or trouble.
+",
+    );
+}
+
 fn main() {
-    let receipt = receive();
-    print_line(receipt.number as u64, receipt.lost as u64);
-    let reasons = receipt.reasons;
-    print_reasons(reasons);
+    match manners::asked() {
+        Request::Nothing => run(),
+        Request::Word => run(),
+        Request::Help => help(),
+        Request::Wrong => manners::usage(
+            b"receive [FILE] < input > report; receive --help says more",
+        ),
+    }
 }

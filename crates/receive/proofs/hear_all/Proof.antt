@@ -5,10 +5,10 @@ use Rattle.receive.proofs.hear_all.Statement.{statement}
 use Rattle.receive.proofs.hear_all.Tie as tie
 
 abbrev Inv-loop : tie.InvT-loop
-Inv-loop p n bits₀ y₀ bits y = Unit {0}
+Inv-loop p n bits₀ came₀ y₀ bits came y = Unit {0}
 
 abbrev μ-loop : tie.MeasureT-loop
-μ-loop p n bits₀ y₀ bits y = n - y
+μ-loop p n bits₀ came₀ y₀ bits came y = n - y
 
 symbol-count-requires : tie.Need-symbol-count-requires Inv-loop μ-loop
 symbol-count-requires c κs = search needs
@@ -18,6 +18,15 @@ loop-holds c = search needs
 
 hear-one-requires : tie.Need-hear-one-requires Inv-loop μ-loop
 hear-one-requires c κs = search needs
+
+mul-came : tie.Need-mul-came Inv-loop μ-loop
+mul-came c = search needs
+
+mul-came-2 : tie.Need-mul-came-2 Inv-loop μ-loop
+mul-came-2 c = search needs
+
+add-came : tie.Need-add-came Inv-loop μ-loop
+add-came c = search needs
 
 returns : tie.Need-returns Inv-loop μ-loop
 returns c = search needs
@@ -43,6 +52,9 @@ hear-all-spec =
     symbol-count-requires
     loop-holds
     hear-one-requires
+    mul-came
+    mul-came-2
+    add-came
     returns
     add-y
     loop-less

@@ -44,8 +44,8 @@ returns c = search needs
 end-of-requires-2 : tie.Need-end-of-requires-2 Inv-loop μ-loop
 end-of-requires-2 c κs = search needs
 
-add-at : tie.Need-add-at Inv-loop μ-loop
-add-at c = search needs
+after-end-requires : tie.Need-after-end-requires Inv-loop μ-loop
+after-end-requires c κs = search needs
 
 loop-less : tie.Need-loop-less Inv-loop μ-loop
 loop-less c = search needs
@@ -76,7 +76,7 @@ read-text-spec =
     is-fine-requires
     returns
     end-of-requires-2
-    add-at
+    after-end-requires
     loop-less
     loop-again
     ended-requires

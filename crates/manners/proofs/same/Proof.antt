@@ -2,8 +2,8 @@
 use Prim.Native.Nat.{_≤_, _-_}
 use lib.ListN.{length}
 use borrow.Author.Needs.{needs}
-use Rattle.profile_text.proofs.scan.same.Statement.{statement}
-use Rattle.profile_text.proofs.scan.same.Tie as tie
+use Rattle.manners.proofs.same.Statement.{statement}
+use Rattle.manners.proofs.same.Tie as tie
 
 abbrev Inv-loop : tie.InvT-loop
 Inv-loop a b i₀ i = i ≤ length a

@@ -1,0 +1,180 @@
+// How the programs speak, and what they share on their input and output. What each writes on standard error has one of four forms, by which `bin/` knows the exit status:
+//
+//     N words                          a refusal: document 01's number, and what it means
+//     profile_text: line N: words      a refused text; `profile_text: text: words` where no line is at fault
+//     NAME: cannot words               trouble: input that can't be read, output that can't be written
+//     usage: words                     words that the program does not take
+//
+// A program that did what was asked says nothing there.
+pub mod put;
+
+use libc::STDERR_FILENO;
+use libc::STDIN_FILENO;
+use libc::STDOUT_FILENO;
+
+// Room for a line.
+const ROOM: usize = 256;
+
+// What the words after a program's name are.
+pub enum Request {
+    Nothing,
+    Help,
+    Word,
+    Wrong,
+}
+
+// A number of two bytes.
+pub fn pair(high: u8, low: u8) -> u16 {
+    high as u16 * 256 + low as u16
+}
+
+// Whether two words are the same.
+pub fn same(a: &[u8], b: &[u8]) -> bool {
+    if a.len() != b.len() {
+        return false;
+    }
+    let mut i = 0;
+    while i < a.len() {
+        if a[i] != b[i] {
+            return false;
+        }
+        i += 1;
+    }
+    true
+}
+
+// What the one word after a program's name is: it is not empty, and only --help begins with a dash.
+fn asked_by_word() -> Request {
+    let mut word = [0u8; 8];
+    let n = os::arg(1, &mut word);
+    let is_empty = n == 0 && os::errno() == 0;
+    if same(&word[..n], b"--help") {
+        return Request::Help;
+    }
+    if is_empty || word[0] == b'-' {
+        return Request::Wrong;
+    }
+    Request::Word
+}
+
+// What the words after a program's name are.
+pub fn asked() -> Request {
+    match os::arg_count() {
+        0 | 1 => Request::Nothing,
+        2 => asked_by_word(),
+        _ => Request::Wrong,
+    }
+}
+
+// The line for a use that a program does not take.
+pub fn usage(words: &[u8]) {
+    io::write_all(STDERR_FILENO, b"usage: ");
+    io::write_all(STDERR_FILENO, words);
+    io::write_all(STDERR_FILENO, b"\n");
+}
+
+// Trouble, by errno: what the program can't do.
+pub fn cannot(program: &[u8], what: &[u8]) {
+    io::write_all(STDERR_FILENO, program);
+    io::write_all(STDERR_FILENO, b": cannot ");
+    os::fail(what);
+}
+
+// Writes to standard output; answers whether it could, and says so where it can't.
+pub fn write(program: &[u8], bytes: &[u8]) -> bool {
+    let is_written = io::write_all(STDOUT_FILENO, bytes);
+    if !is_written {
+        cannot(program, b"write standard output");
+    }
+    is_written
+}
+
+// Writes the first n bytes of a buffer to standard output.
+pub fn write_part(program: &[u8], out: &[u8], n: usize) -> bool {
+    if out.len() < n {
+        return false;
+    }
+    write(program, &out[0..n])
+}
+
+// Whether standard input, of which fewer bytes came than were asked for, can't be read: at its end a read answers 0. Says so.
+pub fn is_unread(program: &[u8]) -> bool {
+    let mut one = [0u8; 1];
+    let fails = libc::read(STDIN_FILENO, &mut one) < 0;
+    if fails {
+        cannot(program, b"read standard input");
+    }
+    fails
+}
+
+// What document 01 says of a number.
+fn meaning(out: &mut [u8], at: usize, number: u32) -> usize {
+    match number {
+        1 => put::bytes(out, at, b"profile ends inside a field"),
+        2 => put::bytes(out, at, b"tag other than the one due"),
+        3 => put::bytes(out, at, b"declared length wrong"),
+        4 => put::bytes(out, at, b"value outside its range"),
+        5 => put::bytes(out, at, b"profile ends between fields with one due"),
+        6 => put::bytes(out, at, b"the data isn't 122 x K bytes"),
+        7 => put::bytes(out, at, b"the cells aren't 4096 x 8 bytes a symbol"),
+        8 => put::bytes(out, at, b"symbol number outside the grid"),
+        9 => put::bytes(out, at, b"more than r packets lost"),
+        10 => put::bytes(
+            out,
+            at,
+            b"in some column no codeword agrees with all packets that aren't lost",
+        ),
+        _ => put::bytes(out, at, b"unknown number"),
+    }
+}
+
+// The start of a refusal's line.
+fn numbered(out: &mut [u8], number: u32) -> usize {
+    let at = put::decimal(out, 0, number as u64);
+    put::bytes(out, at, b" ")
+}
+
+// A refusal.
+pub fn refuse(number: u32) {
+    let mut out = [0u8; ROOM];
+    let at = numbered(&mut out, number);
+    let at = meaning(&mut out, at, number);
+    put::say(&mut out, at);
+}
+
+// A refusal for input that ends before the profile, or what stands beside it, does.
+pub fn refuse_short_input(number: u32, what: &[u8]) {
+    let mut out = [0u8; ROOM];
+    let at = numbered(&mut out, number);
+    let at = put::bytes(&mut out, at, b"the input ends before ");
+    let at = put::bytes(&mut out, at, what);
+    put::say(&mut out, at);
+}
+
+// A refusal with two counts behind its meaning, and the words before each and after them.
+fn refuse_counted(number: u32, first: &[u8], a: u64, second: &[u8], b: u64, last: &[u8]) {
+    let mut out = [0u8; ROOM];
+    let at = numbered(&mut out, number);
+    let at = meaning(&mut out, at, number);
+    let at = put::bytes(&mut out, at, first);
+    let at = put::decimal(&mut out, at, a);
+    let at = put::bytes(&mut out, at, second);
+    let at = put::decimal(&mut out, at, b);
+    let at = put::bytes(&mut out, at, last);
+    put::say(&mut out, at);
+}
+
+// A refusal for input of a wrong length.
+pub fn refuse_length(number: u32, came: u64, due: u64) {
+    refuse_counted(number, b": ", came, b" came, ", due, b" are due");
+}
+
+// A refusal for input that is so long that it was not read to its end.
+pub fn refuse_surplus(number: u32, read: u64, due: u64) {
+    refuse_counted(number, b": more than ", read, b" came, ", due, b" are due");
+}
+
+// A refusal for too many lost packets.
+pub fn refuse_lost(number: u32, lost: u64, r: u64) {
+    refuse_counted(number, b": ", lost, b" are lost, r is ", r, b"");
+}
