@@ -1,6 +1,6 @@
 -- `code_block` meets its contract. The loop's invariant: the packets before p are coded.
 use mathlib.Core.Path.{_≡_, refl, ap₂, subst, _∙_}
-use lib.ListN.{length}
+use lib.ListN.{length, length-take, length-drop}
 use Prim.Native.Nat.{ℕ, _+_, _*_, _-_, _≤_}
 use native.Mathlib.Omega.{arith}
 use borrow.Author.Needs.{needs}
@@ -86,7 +86,7 @@ code-with-requires c κs =
     let n : ℕ = i .before .before .packet-bits .result in (
       places .before .addresses .ensures,
       places .places .ensures,
-      part-long (122 * l .p) _ (start (i .before .before) .args .t2) (omega arith) (omega (arith, bytes i)) ∙ omega arith,
+      simp (length-take, length-drop) (omega (arith, bytes i)),
       part-long (n * l .p) _ (l .bits) (omega arith) (omega (arith, room i, l .inv .1 .long)) ∙ omega arith,
     )
 
