@@ -7,7 +7,6 @@ ghost use Rattle.rules.specs.Bits.{row};
 ghost use Rattle.rules.specs.Outer.{isK};
 ghost use Rattle.rules.specs.Slots.{isMode, slots, slotBits, symbols};
 ghost use Rattle.rules.specs.Profile.{inRange};
-ghost use Rattle.rules.specs.Block as rule;
 ghost use Rattle.rules.specs.Block.{packet, sentBit, SendRule, SendSymbolRule};
 ghost use Rattle.sending.specs.Steps.{Grid};
 use block::early;
