@@ -87,7 +87,7 @@ numbered BadLength = refl
 numbered TooManyLost = refl
 numbered NoCodeword = refl
 
-pub number-one : {o o' : Outcome} → outcomeNumber o ≡ outcomeNumber o' → o ≡ o'
+number-one : {o o' : Outcome} → outcomeNumber o ≡ outcomeNumber o' → o ≡ o'
 number-one {o} {o'} e = sym (numbered o) ∙ ap outcome-of e ∙ numbered o'
 
 -- two blocks with the same columns are the same
@@ -151,3 +151,16 @@ one-restoring k lost fits (Restored.noCodeword t b few j l none e) (Restored.noC
 one-restoring k lost fits (Restored.noCodeword t b few j l none e) (Restored.badK n e') = absurd (n t)
 one-restoring k lost fits (Restored.noCodeword t b few j l none e) (Restored.badLength t' n e') = absurd (n b)
 one-restoring k lost fits (Restored.noCodeword t b few j l none e) (Restored.tooManyLost t' b' many e') = absurd (omega arith)
+
+-- what the two calls answer is an outcome: it is the same, too
+pub parity-outcome : (k : ℕ) (o o' : Outcome) {before after after' : List ℕ}
+    → ParityMade k before after (outcomeNumber o)
+    → ParityMade k before after' (outcomeNumber o')
+    → (o ≡ o') × (after ≡ after')
+parity-outcome k o o' x y = let e = one-parity k x y in (number-one (e .0), e .1)
+
+pub restoring-outcome : (k lost : ℕ) (o o' : Outcome) {before after after' : List ℕ} → lost < 2 ^ 16
+    → Restored k lost before after (outcomeNumber o)
+    → Restored k lost before after' (outcomeNumber o')
+    → (o ≡ o') × (after ≡ after')
+restoring-outcome k lost o o' fits x y = let e = one-restoring k lost fits x y in (number-one (e .0), e .1)
