@@ -1,6 +1,7 @@
 -- What the answer 0 tells, and what gives it: the profile is in its range, and all lengths are right.
 use mathlib.Core.Path.{_≡_, refl}
 use mathlib.Core.Bool.{Bool, true, false, not, _&&_}
+use mathlib.Core.Logic.{_↔_}
 use Prim.Native.Nat.{ℕ, _*_}
 use native.Mathlib.Omega.{arith}
 use lib.Dec.{T, eqb, eqb→eq}
@@ -28,10 +29,13 @@ right P bytes firsts seconds cells e =
     go true false c d e = absurd (omega arith)
     go false b c d e = absurd (omega arith)
 
-pub passes : (P : Profile) (bytes firsts seconds cells : ℕ) → Right P bytes firsts seconds cells → early P bytes firsts seconds cells ≡ 0
-passes P bytes firsts seconds cells r =
-    go (inRange P) (eqb bytes (122 * P .k)) (eqb firsts cells) (eqb seconds cells)
-    (r .range) (eq→eqb (r .data-long)) (eq→eqb (r .firsts-long)) (eq→eqb (r .seconds-long))
+pub early-right : (P : Profile) (bytes firsts seconds cells : ℕ)
+    → (early P bytes firsts seconds cells ≡ 0) ↔ (T (inRange P) × (bytes ≡ 122 * P .k) × (firsts ≡ cells) × (seconds ≡ cells))
+early-right P bytes firsts seconds cells = (
+  (λ e. let w = right P bytes firsts seconds cells e in (w .range, w .data-long, w .firsts-long, w .seconds-long)),
+  λ q.
+      go (inRange P) (eqb bytes (122 * P .k)) (eqb firsts cells) (eqb seconds cells) (q .0) (eq→eqb (q .1)) (eq→eqb (q .2)) (eq→eqb (q .3)),
+)
   where
     go : (a b c d : Bool) → T a → T b → T c → T d → pick {A = ℕ} (not a) 4 (pick (not b) 6 (pick (not (c && d)) 7 0)) ≡ 0
     go true true true true p q r s = refl

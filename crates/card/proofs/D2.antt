@@ -21,7 +21,7 @@ use Rattle.rules.specs.declared.Profile.{Profile}
 use Rattle.rules.specs.declared.Receipt.{Receipt}
 use Rattle.laws.specs.Holds.{holds-one}
 use Rattle.profile.proofs.RoundTrip.{writes, read-written, written-read}
-use Rattle.block.proofs.Passed.{Right, right, passes}
+use Rattle.block.proofs.Passed.{early-right}
 use Rattle.receiving.proofs.BySymbol.{in-turn-received}
 use Rattle.card.proofs.OneAnswer.{one-answer, one-hearing}
 use Rattle.card.proofs.Reading.{reads, nothing-accepted, own-cells}
@@ -82,15 +82,8 @@ sends : (P : Profile) (d : List ℕ) (f s f' s' : List Float) (n : ℕ) → Send
     → (n ≡ 0)
     ↔ (T (inRange P) × (length d ≡ 122 * P .k) × (length f ≡ 4096 * symbols (P .mode)) × (length s ≡ 4096 * symbols (P .mode)))
 sends P d f s f' s' n r =
-    let all : ℕ = 4096 * symbols (P .mode) in (
-      (λ z.
-          let w = right P (length d) (length f) (length s) all (sym (r .answer) ∙ z) in
-          (w .range, w .data-long, w .firsts-long, w .seconds-long)),
-      λ q.
-          let w : Right P (length d) (length f) (length s) all
-          = record { range = q .0; data-long = q .1; firsts-long = q .2; seconds-long = q .3 } in
-          r .answer ∙ passes P (length d) (length f) (length s) all w,
-    )
+    let iff = early-right P (length d) (length f) (length s) (4096 * symbols (P .mode)) in
+    ((λ z. iff .0 (sym (r .answer) ∙ z)), λ q. r .answer ∙ iff .1 q)
 
 accepts : (P : Profile) (marks : ℕ) (f s : List Float) (before after : List ℕ) (a : Receipt)
     → ReceiveRule P marks f s before after a

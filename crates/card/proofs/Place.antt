@@ -25,7 +25,7 @@ use Rattle.turbo.proofs.Modes.{coded-bit}
 use Rattle.turbo.proofs.Accepted.{accepted-coded, coded-accepted}
 use Rattle.slots.proofs.Twice.{scrambling-lt, unscrambled-bit, unscrambled-twice}
 use Rattle.cells.proofs.Deciding.{decide-lt}
-use Rattle.block.proofs.Passed.{passes}
+use Rattle.block.proofs.Passed.{early-right}
 
 -- with a profile in its range, and rooms of the right lengths, receiving judges
 pub judges : {P : Profile} {marks : ℕ} (f s : List Float) {before after : List ℕ} {a : Receipt}
@@ -36,9 +36,7 @@ pub judges : {P : Profile} {marks : ℕ} (f s : List Float) {before after : List
     → length s ≡ 4096 * symbols (P .mode)
     → Judged P marks (decided P f s) before after a
 judges {P} f s {before = before} r t b x y =
-    r .judged
-    (passes P (length before) (length f) (length s) (4096 * symbols (P .mode))
-    (record { range = t; data-long = b; firsts-long = x; seconds-long = y }))
+    r .judged (early-right P (length before) (length f) (length s) (4096 * symbols (P .mode)) .1 (t, b, x, y))
 
 -- ---- scrambled and back
 

@@ -16,7 +16,7 @@ use Rattle.rules.specs.Answers.{hasRead}
 use Rattle.rules.specs.Block.{early, heard, decided, scrambler, unscrambled, silence, Accepted, Delivered, ReceiveRule}
 use Rattle.rules.specs.declared.Profile.{Profile}
 use Rattle.rules.specs.declared.Receipt.{Receipt}
-use Rattle.block.proofs.Passed.{Right, right, passes}
+use Rattle.block.proofs.Passed.{early-right}
 use Rattle.receiving.proofs.Judgement.{judged-same}
 use Rattle.card.proofs.OneAnswer.{one-answer}
 
@@ -53,15 +53,9 @@ module _ (P : Profile) (marks : ℕ) (f s : List Float) (before after : List ℕ
   pub reads : T (hasRead (a .number))
       ↔ (T (inRange P) × (length before ≡ 122 * P .k) × (length f ≡ 4096 * symbols (P .mode)) × (length s ≡ 4096 * symbols (P .mode)))
   unfolding first
-  reads = (
-    (λ t.
-        let w = right P (length before) (length f) (length s) (4096 * symbols (P .mode)) (read-first t) in
-        (w .range, w .data-long, w .firsts-long, w .seconds-long)),
-    λ q.
-        let w : Right P (length before) (length f) (length s) (4096 * symbols (P .mode))
-        = record { range = q .0; data-long = q .1; firsts-long = q .2; seconds-long = q .3 } in
-        delivered-read (r .judged (passes P (length before) (length f) (length s) (4096 * symbols (P .mode)) w) .delivered),
-  )
+  reads =
+      let iff = early-right P (length before) (length f) (length s) (4096 * symbols (P .mode)) in
+      ((λ t. iff .0 (read-first t)), λ q. delivered-read (r .judged (iff .1 q) .delivered))
 
   pub nothing-accepted : ¬ T (hasRead (a .number)) → (a .lost ≡ 0) × (a .reasons ≡ replicate 16 0) × ((p : ℕ) → ¬ Accepted a p)
   unfolding first
