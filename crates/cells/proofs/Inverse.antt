@@ -4,28 +4,34 @@ use mathlib.Core.Path.{_≡_, refl, sym, _∙_, ap, ap₂, subst}
 use Prim.Native.Nat.{ℕ, _+_, _-_, _*_, _/_, _%_, _<_, _≤_}
 use native.Mathlib.Decide.{ℕ-discrete, decLt}
 use native.Mathlib.Omega.{arith}
-use lib.Dec.{eqb}
+use lib.Dec.{eqb, ltb, eqb→eq, ltb→lt}
 use borrow.Author.Tests.{lt-ltb, le-ltb, le-leb, lt-leb, eq-eqb, ne-eqb}
 use Rattle.rules.specs.Bits.{pick}
+use Rattle.rules.specs.Kept.{nextKept, counter, count}
 use Rattle.rules.specs.Slots.{slots, symbols, symbolOf, slotNumber}
 use Rattle.rules.specs.Cells.{placeOf, pointAt, interlaceOf, slotOf, cellOf, pointCell}
 use Rattle.rules.specs.Cells.{Belongs, outside, place, belongs, carriedBy, carriedAt, carried}
 use Rattle.rules.specs.declared.Carried.{Carried}
 use Rattle.rules.specs.declared.Carried.the-variants.{Nothing, PointOf}
+use Rattle.laws.specs.Every.{every-at}
 
--- ---- places are a permutation of 0 to 499
+-- ---- places are a permutation of 0 to 499: computed, place by place
 
 pub place-lt : {i : ℕ} → i < 500 → placeOf i < 500
-place-lt h = h
+unfolding placeOf nextKept counter
+place-lt {i} h = ltb→lt _ _ (every-at 500 (λ i. ltb (placeOf i) 500) tt i h)
 
 pub point-lt : {i : ℕ} → i < 500 → pointAt i < 500
-point-lt h = h
+unfolding pointAt count
+point-lt {i} h = ltb→lt _ _ (every-at 500 (λ i. ltb (pointAt i) 500) tt i h)
 
 pub place-point : (i : ℕ) → i < 500 → pointAt (placeOf i) ≡ i
-place-point i h = refl
+unfolding placeOf pointAt nextKept counter count
+place-point i h = eqb→eq _ _ (every-at 500 (λ i. eqb (pointAt (placeOf i)) i) tt i h)
 
 pub point-place : (i : ℕ) → i < 500 → placeOf (pointAt i) ≡ i
-point-place i h = refl
+unfolding placeOf pointAt nextKept counter count
+point-place i h = eqb→eq _ _ (every-at 500 (λ i. eqb (placeOf (pointAt i)) i) tt i h)
 
 -- ---- in each symbol the slots 1 to 7 have an interlace each
 

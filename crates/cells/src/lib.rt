@@ -8,9 +8,15 @@ ghost use Rattle.rules.specs.Points as points;
 ghost use Rattle.rules.specs.Points.{zeroPart, pointOf, firstPart, secondPart};
 ghost use Rattle.rules.specs.Cells as rule;
 ghost use Rattle.laws.specs.Holds.{Holds};
+ghost use Rattle.cells.specs.Order.{Places, Points};
 ghost use Rattle.cells.specs.Spot.{belonging};
 ghost use Rattle.cells.specs.Symbol as symbolRule;
 ghost use Rattle.cells.specs.Symbol.{symbolCell, WriteRule, slotsEnd, readIn, ReadRule};
+
+mod order;
+
+use order::PLACES;
+use order::POINTS;
 use rules::Carried;
 use rules::Cell;
 use rules::Point;
@@ -84,19 +90,32 @@ fn in_grid(mode: u8, symbol: usize) -> bool
     symbol < (slot_count(mode) + 6) / 7
 }
 
-// The place of a point in its interlace, and the point at a place.
-fn place_of(point: usize) -> usize
-    requires { ⌜ point < 500 ⌝ }
-    ensures { λ r. ⌜ (r ≡ rule.placeOf point) × (r < 500) ⌝ }
+// The places of a slot's points, and the points at the places: copied once, then looked up.
+fn places() -> [u16; 500]
+    ensures { λ r. ⌜ Places r ⌝ }
 {
-    point
+    PLACES
 }
 
-fn point_at(place: usize) -> usize
-    requires { ⌜ place < 500 ⌝ }
+fn points() -> [u16; 500]
+    ensures { λ r. ⌜ Points r ⌝ }
+{
+    POINTS
+}
+
+// The place of a point in its interlace, and the point at a place.
+fn place_of(places: &[u16], point: usize) -> usize
+    requires { ⌜ Places (now places) × (point < 500) ⌝ }
+    ensures { λ r. ⌜ (r ≡ rule.placeOf point) × (r < 500) ⌝ }
+{
+    places[point] as usize
+}
+
+fn point_at(points: &[u16], place: usize) -> usize
+    requires { ⌜ Points (now points) × (place < 500) ⌝ }
     ensures { λ r. ⌜ (r ≡ rule.pointAt place) × (r < 500) ⌝ }
 {
-    place
+    points[place] as usize
 }
 
 // The interlace of slot number 1 to 7 in a symbol, and the slot number of an interlace, 0 for none.
@@ -136,8 +155,8 @@ fn spot_of(c: usize) -> Spot
 }
 
 // What interlace k carries at a place.
-fn carried_at(mode: u8, symbol: usize, k: usize, place: usize) -> Carried
-    requires { ⌜ (symbol < 4096) × (k < 8) × (place < 500) ⌝ }
+fn carried_at(points: &[u16], mode: u8, symbol: usize, k: usize, place: usize) -> Carried
+    requires { ⌜ Points (now points) × (symbol < 4096) × (k < 8) × (place < 500) ⌝ }
     ensures { λ r. ⌜ r ≡ rule.carriedAt mode symbol (rule.place k place) ⌝ }
 {
     let slot = slot_of(symbol, k);
@@ -146,19 +165,19 @@ fn carried_at(mode: u8, symbol: usize, k: usize, place: usize) -> Carried
     }
     let t = 7 * symbol + slot - 1;
     if t < slot_count(mode) {
-        return Carried::PointOf(t, point_at(place));
+        return Carried::PointOf(t, point_at(points, place));
     }
     Carried::Nothing
 }
 
 // What cell c of a symbol carries.
-fn carried_in(mode: u8, symbol: usize, c: usize) -> Carried
-    requires { ⌜ symbol < 4096 ⌝ }
+fn carried_in(points: &[u16], mode: u8, symbol: usize, c: usize) -> Carried
+    requires { ⌜ Points (now points) × (symbol < 4096) ⌝ }
     ensures { λ r. ⌜ r ≡ rule.carried mode symbol c ⌝ }
 {
     match spot_of(c) {
         Spot::Outside => Carried::Nothing,
-        Spot::Place(k, place) => carried_at(mode, symbol, k, place),
+        Spot::Place(k, place) => carried_at(points, mode, symbol, k, place),
     }
 }
 
@@ -167,17 +186,17 @@ pub fn carried(mode: u8, symbol: usize, c: usize) -> Carried
     ensures { λ r. ⌜ r ≡ rule.carried mode symbol c ⌝ }
 {
     if in_grid(mode, symbol) {
-        return carried_in(mode, symbol, c);
+        return carried_in(&points(), mode, symbol, c);
     }
     Carried::Nothing
 }
 
 // The cell of a symbol whose block has these scrambled bits.
-fn cell_at(mode: u8, level: f32, bits: &[u8], symbol: usize, c: usize) -> Cell
-    requires { ⌜ (symbol < 4096) × (length (now bits) ≡ slotBits mode * slots mode) ⌝ }
+fn cell_at(points: &[u16], mode: u8, level: f32, bits: &[u8], symbol: usize, c: usize) -> Cell
+    requires { ⌜ Points (now points) × (symbol < 4096) × (length (now bits) ≡ slotBits mode * slots mode) ⌝ }
     ensures { λ r. ⌜ r ≡ symbolCell mode level (now (bits .entry)) symbol c ⌝ }
 {
-    match carried_in(mode, symbol, c) {
+    match carried_in(points, mode, symbol, c) {
         Carried::Nothing => Cell::Silent,
         Carried::PointOf(t, i) => {
             let at = 1000 * t + 2 * i;
@@ -230,8 +249,9 @@ pub fn write_symbol(
     if !fitting(mode, symbol, bits.len(), firsts.len(), seconds.len()) {
         return false;
     }
+    let points = points();
     for c in 0..4096 {
-        let cell = cell_at(mode, level, bits, symbol, c);
+        let cell = cell_at(&points, mode, level, bits, symbol, c);
         let parts = parts_of(cell);
         firsts[c] = parts.first;
         seconds[c] = parts.second;
@@ -253,11 +273,11 @@ fn cell_of(k: usize, place: usize) -> usize
 }
 
 // The cell, in its symbol, of point i of block slot t.
-fn point_cell(t: usize, i: usize) -> usize
-    requires { ⌜ (t < 4096) × (i < 500) ⌝ }
+fn point_cell(places: &[u16], t: usize, i: usize) -> usize
+    requires { ⌜ Places (now places) × (t < 4096) × (i < 500) ⌝ }
     ensures { λ r. ⌜ (r ≡ rule.pointCell t i) × (r < 4096) ⌝ }
 {
-    cell_of(interlace_of(t / 7, 1 + t % 7), place_of(i))
+    cell_of(interlace_of(t / 7, 1 + t % 7), place_of(places, i))
 }
 
 // The point that a cell holds.
@@ -279,8 +299,9 @@ fn read_slot(mode: u8, t: usize, firsts: &[f32], seconds: &[f32], decided: &mut 
         (readIn mode (slotBits mode * t) (slotBits mode * (t + 1)) (now (firsts .entry)) (now (seconds .entry)) (now (decided .entry)))
         (now (decided .exit)) ⌝ }
 {
+    let places = places();
     for i in 0..500 {
-        let c = point_cell(t, i);
+        let c = point_cell(&places, t, i);
         let d = decide_point(point_in(firsts, seconds, c));
         let at = 1000 * t + 2 * i;
         decided[at] = d.s0;

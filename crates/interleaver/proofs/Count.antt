@@ -1,4 +1,4 @@
--- How many numbers below m pass a test: the count tells two places that pass apart, and a one-to-one function on 0 .. N - 1 has as many
+-- What the count of the numbers below m that pass a test says: it tells two places that pass apart, and a one-to-one function on 0 .. N - 1 has as many
 -- values below L as there are numbers below L.
 use mathlib.Core.Path.{_≡_, refl, sym, ap, ap₂, _∙_}
 use mathlib.Core.Logic.{_≢_}
@@ -8,14 +8,8 @@ use native.Mathlib.Omega.{arith}
 use native.Mathlib.Decide.{ℕ-discrete, decLt, le-ind}
 use lib.Dec.{ltb}
 use borrow.Author.Tests.{lt-ltb, le-ltb}
-
-abbrev bit : Bool → ℕ
-bit true = 1
-bit false = 0
-
-unfoldable pub count : (ℕ → Bool) → ℕ → ℕ
-count p zero = 0
-count p (suc m) = count p m + bit (p m)
+use Rattle.rules.specs.Bits.{pick}
+use Rattle.rules.specs.Kept.{count}
 
 module _ (p : ℕ → Bool) where
   pub count-yes : {m : ℕ} → p m ≡ true → count p (suc m) ≡ suc (count p m)
@@ -43,7 +37,7 @@ count-same : (p q : ℕ → Bool) (N : ℕ) → ((m : ℕ) → m < N → p m ≡
 unfolding count
 count-same p q zero same = refl
 count-same p q (suc N) same =
-    ap₂ (λ (a b : ℕ). a + b) (count-same p q N (λ m lt. same m (omega arith))) (ap bit (sym (same N (omega arith))))
+    ap₂ (λ (a b : ℕ). a + b) (count-same p q N (λ m lt. same m (omega arith))) (ap (λ (b : Bool). pick {A = ℕ} b 1 0) (sym (same N (omega arith))))
 
 -- tests that agree but at g, which only q passes
 module _ (p q : ℕ → Bool) (g : ℕ) (pg : p g ≡ false) (qg : q g ≡ true) where
@@ -52,7 +46,7 @@ module _ (p q : ℕ → Bool) (g : ℕ) (pg : p g ≡ false) (qg : q g ≡ true)
   count-more zero same lt = absurd (omega arith)
   count-more (suc N) same lt = go (λ l. count-more N (λ m k. same m (omega arith)) l) (ℕ-discrete N g)
     where
-      go : (g < N → count q N ≡ suc (count p N)) → Dec (N ≡ g) → count q N + bit (q N) ≡ suc (count p N + bit (p N))
+      go : (g < N → count q N ≡ suc (count p N)) → Dec (N ≡ g) → count q N + pick (q N) 1 0 ≡ suc (count p N + pick (p N) 1 0)
       go less (yes e) = rw (e, pg, qg) (omega (arith, count-same p q g (λ m l. same m (omega arith) (omega arith))))
       go less (no ne) = rw (← same N (omega arith) ne) (omega (arith, less (omega arith)))
 

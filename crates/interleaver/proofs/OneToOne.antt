@@ -7,31 +7,32 @@ use lib.Dec.{eqb}
 use lib.Pow.{pow-pos}
 use lib.Arith.{digits-lt, digits-div, digits-mod}
 use lib.Dec.{eqb→eq}
-use Rattle.rules.specs.Interleaver.{reversed, address}
+use Rattle.rules.specs.Kept.{reversed}
+use Rattle.rules.specs.Interleaver.{address}
 use Rattle.laws.specs.Every.{every-at}
 use Rattle.interleaver.proofs.Odd.{Inverse, inverse, unstep, unstep-step, step-unstep, unstep-lt}
 
-reversed-lt : (i : ℕ) → reversed i < 32
+reversed-lt : (i : ℕ) → reversed 5 i < 32
 reversed-lt i = omega arith
 
-reversed-twice : {i : ℕ} → i < 32 → reversed (reversed i) ≡ i
-reversed-twice {i} lt = eqb→eq _ _ (every-at 32 (λ i. eqb (reversed (reversed i)) i) tt i lt)
+reversed-twice : {i : ℕ} → i < 32 → reversed 5 (reversed 5 i) ≡ i
+reversed-twice {i} lt = eqb→eq _ _ (every-at 32 (λ i. eqb (reversed 5 (reversed 5 i)) i) tt i lt)
 
 module _ (n : ℕ) (D : ℕ → ℕ) where
-  digits : (m : ℕ) → address n D m ≡ reversed (m % 32) * 2 ^ n + D (m % 32) * (m / 32 + 1) % 2 ^ n
+  digits : (m : ℕ) → address n D m ≡ reversed 5 (m % 32) * 2 ^ n + D (m % 32) * (m / 32 + 1) % 2 ^ n
   unfolding address
   digits m = rw (mul-comm (2 ^ n))
 
   low-lt : (m : ℕ) → D (m % 32) * (m / 32 + 1) % 2 ^ n < 2 ^ n
   low-lt m = mod-lt _ (pow-pos n)
 
-  high : (m : ℕ) → address n D m / 2 ^ n ≡ reversed (m % 32)
-  high m = rw (digits m) (digits-div (reversed (m % 32)) (low-lt m))
+  high : (m : ℕ) → address n D m / 2 ^ n ≡ reversed 5 (m % 32)
+  high m = rw (digits m) (digits-div (reversed 5 (m % 32)) (low-lt m))
 
   low : (m : ℕ) → address n D m % 2 ^ n ≡ D (m % 32) * (m / 32 + 1) % 2 ^ n
-  low m = rw (digits m) (digits-mod (reversed (m % 32)) (low-lt m))
+  low m = rw (digits m) (digits-mod (reversed 5 (m % 32)) (low-lt m))
 
-  address-of : (x i : ℕ) → i < 32 → address n D (x * 32 + i) ≡ 2 ^ n * reversed i + D i * (x + 1) % 2 ^ n
+  address-of : (x i : ℕ) → i < 32 → address n D (x * 32 + i) ≡ 2 ^ n * reversed 5 i + D i * (x + 1) % 2 ^ n
   unfolding address
   address-of x i lt = rw (digits-mod x lt, digits-div x lt)
 
@@ -41,7 +42,7 @@ module _ (n : ℕ) (D : ℕ → ℕ) (odd : (i : ℕ) → i < 32 → D i % 2 ≡
     where
       I0 : a % 32 ≡ b % 32
       I0 =
-          sym (reversed-twice (omega arith)) ∙ ap (λ (q : ℕ). reversed q) (sym (high n D a) ∙ ap (λ (x : ℕ). x / 2 ^ n) e ∙ high n D b)
+          sym (reversed-twice (omega arith)) ∙ ap (λ (q : ℕ). reversed 5 q) (sym (high n D a) ∙ ap (λ (x : ℕ). x / 2 ^ n) e ∙ high n D b)
           ∙ reversed-twice (omega arith)
 
       i : Inverse (D (a % 32)) n
@@ -55,12 +56,12 @@ module _ (n : ℕ) (D : ℕ → ℕ) (odd : (i : ℕ) → i < 32 → D i % 2 ≡
       I1 = sym (unstep-step n i (omega arith)) ∙ ap (unstep n (i .by)) lows ∙ unstep-step n i (omega arith)
 
   -- the multiplier's inverse at an address
-  at : (a : ℕ) → Inverse (D (reversed (a / 2 ^ n))) n
-  at a = inverse (D (reversed (a / 2 ^ n))) (odd (reversed (a / 2 ^ n)) (reversed-lt (a / 2 ^ n))) n
+  at : (a : ℕ) → Inverse (D (reversed 5 (a / 2 ^ n))) n
+  at a = inverse (D (reversed 5 (a / 2 ^ n))) (odd (reversed 5 (a / 2 ^ n)) (reversed-lt (a / 2 ^ n))) n
 
   -- the counter of an address
   pub back : ℕ → ℕ
-  back a = unstep n (at a .by) (a % 2 ^ n) * 32 + reversed (a / 2 ^ n)
+  back a = unstep n (at a .by) (a % 2 ^ n) * 32 + reversed 5 (a / 2 ^ n)
 
   pub back-lt : (a : ℕ) → back a < 32 * 2 ^ n
   unfolding back
@@ -69,7 +70,7 @@ module _ (n : ℕ) (D : ℕ → ℕ) (odd : (i : ℕ) → i < 32 → D i % 2 ≡
   pub address-back : (a : ℕ) → a < 32 * 2 ^ n → address n D (back a) ≡ a
   unfolding back
   address-back a lt =
-      address-of n D (unstep n (at a .by) (a % 2 ^ n)) (reversed (a / 2 ^ n)) (reversed-lt (a / 2 ^ n))
+      address-of n D (unstep n (at a .by) (a % 2 ^ n)) (reversed 5 (a / 2 ^ n)) (reversed-lt (a / 2 ^ n))
       ∙ ap₂ (λ (u v : ℕ). 2 ^ n * u + v) (reversed-twice (div-lt-iff-lt-mul (pow-pos n) .1 lt))
       (step-unstep n (at a) (mod-lt a (pow-pos n)))
       ∙ div-add-mod a (2 ^ n)

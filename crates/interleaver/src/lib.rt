@@ -2,8 +2,10 @@
 ghost use mathlib.Core.Path.{_≡_};
 ghost use Prim.Native.Nat.{_<_};
 ghost use Rattle.rules.specs.Bits.{row};
+ghost use Rattle.rules.specs.Kept as keeping;
+ghost use Rattle.rules.specs.Kept.{nextKept};
 ghost use Rattle.rules.specs.Interleaver as rule;
-ghost use Rattle.rules.specs.Interleaver.{tableD, nextKept, interleaved};
+ghost use Rattle.rules.specs.Interleaver.{tableD, interleaved};
 ghost use Rattle.laws.specs.Holds.{Holds};
 
 // The multipliers, by I0.
@@ -50,7 +52,7 @@ pub struct Kept {
 
 // Five bits reversed.
 fn reversed(i: u16) -> u16
-    ensures { λ r. ⌜ r ≡ rule.reversed i ⌝ }
+    ensures { λ r. ⌜ r ≡ keeping.reversed 5 i ⌝ }
 {
     i % 2 * 16 + i / 2 % 2 * 8 + i / 4 % 2 * 4 + i / 8 % 2 * 2 + i / 16 % 2
 }
@@ -67,8 +69,8 @@ fn address(m: u16) -> u16
 
 // The first address below the length from counter m on, with its counter; there is one.
 fn next_kept(m: u16) -> Kept
-    requires { ⌜ nextKept 5 (row tableD) 994 1024 m < 1024 ⌝ }
-    ensures { λ r. ⌜ (r .counter ≡ nextKept 5 (row tableD) 994 1024 m) × (r .address ≡ rule.address 5 (row tableD) (r .counter)) ⌝ }
+    requires { ⌜ nextKept (rule.address 5 (row tableD)) 994 1024 m < 1024 ⌝ }
+    ensures { λ r. ⌜ (r .counter ≡ nextKept (rule.address 5 (row tableD)) 994 1024 m) × (r .address ≡ rule.address 5 (row tableD) (r .counter)) ⌝ }
 {
     let mut counter = m;
     loop {

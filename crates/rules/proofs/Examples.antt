@@ -1,14 +1,16 @@
--- P1 to P12 of document 01 hold of the rules as they are written.
+-- P1 to P12 of document 01, and the places that Req 01 of document 02 names, hold of the rules as they are written.
 use mathlib.Core.Path.{refl}
 use lib.Ieee as Ieee
 use Rattle.rules.specs.Examples.{Hold, examples}
 use Rattle.rules.specs.Field.{_⊗_, double, times, alpha}
 use Rattle.rules.specs.Outer.{generator, remainder}
-use Rattle.rules.specs.Interleaver.{address, nextKept, counter}
+use Rattle.rules.specs.Kept.{nextKept, counter, count}
+use Rattle.rules.specs.Interleaver.{address}
 use Rattle.rules.specs.Turbo.{state}
 use Rattle.rules.specs.Slots.{both, scramblerStep, scramblerState}
 use Rattle.rules.specs.Points.{decide}
+use Rattle.rules.specs.Cells.{placeOf, pointAt}
 
 pub examples-hold : Hold examples
-unfolding _⊗_ double times alpha generator remainder address nextKept counter state both scramblerStep scramblerState decide Ieee.ofBits Ieee.toBits Ieee.lt Ieee.neg
-examples-hold = (refl, (refl, (refl, (refl, (refl, (refl, (refl, (refl, (refl, (refl, (refl, (refl, tt))))))))))))
+unfolding _⊗_ double times alpha generator remainder nextKept counter count address state both scramblerStep scramblerState decide placeOf pointAt Ieee.ofBits Ieee.toBits Ieee.lt Ieee.neg
+examples-hold = (refl, (refl, (refl, (refl, (refl, (refl, (refl, (refl, (refl, (refl, (refl, (refl, (refl, (refl, tt))))))))))))))

@@ -2,14 +2,17 @@
 use mathlib.Core.Path.{_≡_, refl}
 use mathlib.Core.Bool.{Bool, true, _&&_, Bool·beq}
 use mathlib.Core.List.{List, [], _∷_}
-use Prim.Native.Nat.{ℕ, zero, suc, _+_, _-_, _*_, _/_}
+use Prim.Native.Nat.{ℕ, zero, suc, _+_, _-_, _*_, _/_, _%_}
 use lib.Dec.{T, eqb, leb, ltb}
-use Rattle.rules.specs.Bits.{pick, row, bitOf, byteBit}
+use Rattle.rules.specs.Bits.{pick, row, bitOf, asNumber, byteBit}
 use Rattle.rules.specs.Packet.{checkStep, checkRegister, checkWord}
 use Rattle.rules.specs.Field.{_⊗_, double, times, alpha}
 use Rattle.rules.specs.Outer.{generator, value}
+use Rattle.rules.specs.Kept.{nextKept, counter}
 use Rattle.rules.specs.Interleaver.{tableD}
 use Rattle.rules.specs.Turbo.{Rate, half, third, state, ending, codedBit, codedLength}
+use Rattle.rules.specs.Cells.{placeOf}
+use Rattle.rules.specs.Examples.{firstOf}
 use Rattle.rules.specs.Answers.{isNumber, isReason, hasRead}
 
 -- the generator with its first coefficient, that of x^r
@@ -38,11 +41,6 @@ nine-digits = refl
 pub tableD-checked : checkWord (byteBit (row tableD)) 256 ≡ 0x8AAE
 unfolding checkWord checkRegister checkStep
 tableD-checked = refl
-
--- the number whose bits, highest first, are the first n of a row
-abbrev pub asNumber : ℕ → (ℕ → ℕ) → ℕ
-asNumber zero f = 0
-asNumber (suc n) f = asNumber n f * 2 + f n
 
 -- what is sent at a rate for four bits, with four others in place of the interleaved ones
 abbrev pub sentFour : Rate → ℕ → ℕ → ℕ
@@ -74,3 +72,8 @@ read-listed = refl
 
 pub reasons-listed : passing 256 0 isReason ≡ 0 ∷ 11 ∷ 12 ∷ 13 ∷ 14 ∷ 15 ∷ []
 reasons-listed = refl
+
+-- The order of points, as 500 numbers of nine bits, has the check word that a program outside worked out from the sentence of Req 01
+pub places-checked : checkWord (λ i. bitOf 9 (row (firstOf 500 placeOf) (i / 9)) (i % 9)) 4500 ≡ 0x7C6D
+unfolding checkWord checkRegister checkStep placeOf nextKept counter
+places-checked = refl

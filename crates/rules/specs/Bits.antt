@@ -2,7 +2,7 @@
 -- A row of bits, bytes or field elements is a function of the index, from 0.
 use mathlib.Core.Bool.{Bool, true, false, _&&_}
 use mathlib.Core.List.{List}
-use Prim.Native.Nat.{ℕ, zero, suc, _+_, _-_, _/_, _%_, _^_}
+use Prim.Native.Nat.{ℕ, zero, suc, _+_, _-_, _*_, _/_, _%_, _^_}
 use lib.Dec.{eqb}
 use lib.ListN.{getD}
 
@@ -22,6 +22,11 @@ row l i = getD l i 0
 -- bit i of a number of w bits, highest bit first
 abbrev pub bitOf : ℕ → ℕ → ℕ → ℕ
 bitOf w x i = x / 2 ^ (w - 1 - i) % 2
+
+-- the number whose bits, highest first, are the first n of a row
+abbrev pub asNumber : ℕ → (ℕ → ℕ) → ℕ
+asNumber zero f = 0
+asNumber (suc n) f = asNumber n f * 2 + f n
 
 -- Bytes go highest bit first: bit i of a row of bytes
 abbrev pub byteBit : (ℕ → ℕ) → ℕ → ℕ

@@ -1,18 +1,20 @@
--- Document 01, "Slots, scrambling, points": places, interlaces and cells; which point a cell carries.
+-- Document 01, "Slots, scrambling, points": interlaces and cells; which point a cell carries. The places of points are those of document 02, Req 01.
 use mathlib.Core.Bool.{_&&_, _||_}
 use Prim.Native.Nat.{ℕ, _+_, _-_, _*_, _/_, _%_}
 use lib.Dec.{eqb, leb, ltb}
 use Rattle.rules.specs.Bits.{pick}
+use Rattle.rules.specs.Kept.{reversed, kept, count}
 use Rattle.rules.specs.Slots.{slots, symbolOf, slotNumber}
 use Rattle.rules.specs.declared.Carried.{Carried}
 use Rattle.rules.specs.declared.Carried.the-variants.{Nothing, PointOf}
 
--- point i goes to place i of its interlace; and the point that is at a place
-abbrev pub placeOf : ℕ → ℕ
-placeOf i = i
+-- Run i from 0 to 511, reverse its nine bits, drop results of 500 and above; the n-th kept result is the place of point n of its interlace
+unfoldable pub placeOf : ℕ → ℕ
+placeOf n = kept (reversed 9) 512 500 n
 
-abbrev pub pointAt : ℕ → ℕ
-pointAt place = place
+-- and the point that is at a place: as many results are kept before it
+unfoldable pub pointAt : ℕ → ℕ
+pointAt place = count (λ i. ltb (reversed 9 i) 500) (reversed 9 place)
 
 -- slot number k uses interlace k in every symbol; and the slot number that an interlace serves, 0 where it is none of the slots 1 to 7
 abbrev pub interlaceOf : ℕ → ℕ → ℕ

@@ -1,4 +1,4 @@
--- Document 01, "Bench examples", those marked P: what the rules give, and what the document says.
+-- Document 01, "Bench examples", those marked P, and the places that document 02 names: what the rules give, and what the documents say.
 use mathlib.Core.Path.{_≡_}
 use mathlib.Core.List.{List, [], _∷_}
 use Prim.Native.Nat.{ℕ, zero, suc}
@@ -6,11 +6,12 @@ use lib.Dec.{eqb}
 use lib.Ieee.{binary32, ofBits, toBits}
 use Rattle.rules.specs.Bits.{pick, row}
 use Rattle.rules.specs.Outer.{remainder}
-use Rattle.rules.specs.Interleaver.{tableD, address, counter, bitInterleaved}
+use Rattle.rules.specs.Kept.{counter}
+use Rattle.rules.specs.Interleaver.{tableD, address, bitInterleaved}
 use Rattle.rules.specs.Turbo.{y0}
 use Rattle.rules.specs.Slots.{scrambling, symbolOf, slotNumber}
 use Rattle.rules.specs.Points.{pointOf, decide}
-use Rattle.rules.specs.Cells.{cellOf}
+use Rattle.rules.specs.Cells.{placeOf, pointAt, cellOf}
 
 -- f 0, .., f (n - 1)
 abbrev pub firstOf : ℕ → (ℕ → ℕ) → List ℕ
@@ -46,7 +47,7 @@ examples =
     ∷ record { given = firstOf 3 (address 5 (row tableD)); said = 27 ∷ 515 ∷ 257 ∷ [] }
     -- P3 m = 31 gives 1005, skipped, so that the kept counters go from 30 to 32; m = 32 gives 22
     ∷ record {
-      given = address 5 (row tableD) 31 ∷ counter 5 (row tableD) 994 30 ∷ counter 5 (row tableD) 994 31 ∷ address 5 (row tableD) 32 ∷ [];
+      given = address 5 (row tableD) 31 ∷ counter (address 5 (row tableD)) 1024 994 30 ∷ counter (address 5 (row tableD)) 1024 994 31 ∷ address 5 (row tableD) 32 ∷ [];
       said = 1005 ∷ 30 ∷ 32 ∷ 22 ∷ [];
     }
     -- P4 r = 2, only packet 13 is 01
@@ -72,4 +73,7 @@ examples =
     }
     -- P12 part -0.0: doubtful
     ∷ record { given = decide (ofBits binary32 0x8000_0000) ∷ []; said = 2 ∷ [] }
+    -- Req 01 the first kept places, and the points there
+    ∷ record { given = firstOf 3 placeOf; said = 0 ∷ 256 ∷ 128 ∷ [] }
+    ∷ record { given = pointAt 0 ∷ pointAt 256 ∷ pointAt 128 ∷ []; said = 0 ∷ 1 ∷ 2 ∷ [] }
     ∷ []

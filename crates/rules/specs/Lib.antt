@@ -2,6 +2,7 @@ pub mod Bits
 pub mod Packet
 pub mod Field
 pub mod Outer
+pub mod Kept
 pub mod Interleaver
 pub mod Turbo
 pub mod Slots

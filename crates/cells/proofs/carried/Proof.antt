@@ -12,11 +12,17 @@ use Rattle.cells.proofs.carried.Tie as tie
 in-grid-requires : tie.Need-in-grid-requires
 in-grid-requires c κs = search needs
 
+points-requires : tie.Need-points-requires
+points-requires c κs = tt
+
+slice-aggregate-carried-in : tie.Need-slice-aggregate-carried-in
+slice-aggregate-carried-in c = search needs
+
 carried-in-requires : tie.Need-carried-in-requires
 carried-in-requires c κs =
-    let a = c .before .before .args in
-    let inside = ltb-true (a .symbol) (symbols (a .mode)) (sym (c .before .in-grid .ensures) ∙ c .if1 .taken) in
-    omega (arith, slots-lt (a .mode))
+    let a = c .before .before .before .before .args in
+    let inside = ltb-true (a .symbol) (symbols (a .mode)) (sym (c .before .before .before .in-grid .ensures) ∙ c .before .before .if1 .taken) in
+    (c .before .points .ensures, omega (arith, slots-lt (a .mode)))
 
 returns : tie.Need-returns
 returns c = c .carried-in .ensures
@@ -28,4 +34,4 @@ returns-2 c =
     sym (carried-past (a .mode) (a .symbol) (a .c) past)
 
 pub carried-spec : {M : Type 1} → statement M
-carried-spec = tie.close (tie.spec in-grid-requires carried-in-requires returns returns-2)
+carried-spec = tie.close (tie.spec in-grid-requires points-requires slice-aggregate-carried-in carried-in-requires returns returns-2)

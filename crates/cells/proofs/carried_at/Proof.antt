@@ -14,7 +14,7 @@ slot-of-requires c κs = search needs
 
 returns : tie.Need-returns
 returns c =
-    let a = c .before .before .args in
+    let a = c .before .before .before .args in
     sym (served-none (a .mode) (a .symbol) (slotOf (a .symbol) (a .k)) (pointAt (a .place)) (sym (c .before .slot-of .ensures .0) ∙ c .if1 .taken))
 
 mul-t : tie.Need-mul-t
@@ -34,7 +34,7 @@ point-at-requires c κs = search needs
 
 returns-2 : tie.Need-returns-2
 returns-2 c =
-    let a = c .before .before .before .before .before .args in
+    let a = c .before .before .before .before .before .before .args in
     let s = c .before .before .before .before .slot-of in
     ap (PointOf (7 * a .symbol + s .result - 1)) (c .point-at .ensures .0)
     ∙ sym (served-point (a .mode) (a .symbol) (s .result) (pointAt (a .place)) (c .before .before .before .if1 .left) (omega arith))
@@ -42,7 +42,7 @@ returns-2 c =
 
 returns-3 : tie.Need-returns-3
 returns-3 c =
-    let a = c .before .before .before .before .args in
+    let a = c .before .before .before .before .before .args in
     let s = c .before .before .before .slot-of in
     sym (served-past (a .mode) (a .symbol) (s .result) (pointAt (a .place)) (c .before .before .if1 .left) (omega arith))
     ∙ ap (λ (n : ℕ). served (a .mode) (a .symbol) n (pointAt (a .place))) (s .ensures .0)

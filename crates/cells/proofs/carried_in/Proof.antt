@@ -19,20 +19,20 @@ enum-known-k c = search needs
 carried-at-requires : tie.Need-carried-at-requires
 carried-at-requires c κs =
     let k = c .before .k .given in
-    let w = cell-belongs (c .before .before .before .before .args .c) (k .0 .0) (k .0 .1 .0)
+    let w = cell-belongs (c .before .before .before .before .before .args .c) (k .0 .0) (k .0 .1 .0)
     (sym (c .before .before .before .spot-of .ensures) ∙ ap belonging (k .1)) in
-    (c .before .before .before .before .pre, w .0, w .1)
+    (c .before .before .before .before .before .pre .0, c .before .before .before .before .before .pre .1, w .0, w .1)
 
 returns : tie.Need-returns
 unfolding carried
 returns c =
-    let a = c .before .before .before .args in
+    let a = c .before .before .before .before .args in
     ap (carriedAt (a .mode) (a .symbol)) (sym (ap belonging (c .enum-told .given .1)) ∙ c .before .before .spot-of .ensures)
 
 returns-2 : tie.Need-returns-2
 unfolding carried
 returns-2 c =
-    let a = c .before .before .before .before .before .args in
+    let a = c .before .before .before .before .before .before .args in
     c .carried-at .ensures
     ∙ ap (carriedAt (a .mode) (a .symbol)) (sym (ap belonging (c .before .before .k .given .1)) ∙ c .before .before .before .before .spot-of .ensures)
 

@@ -24,9 +24,9 @@ enum-known-t c = search needs
 
 -- the point that the cell carries is one of the block's
 inside : (c : tie.After-known-told)
-    → (c .before .t .given .0 .0 < slots (c .before .before .before .before .before .args .mode)) × (c .before .t .given .0 .1 .0 < 500)
+    → (c .before .t .given .0 .0 < slots (c .before .before .before .before .before .before .args .mode)) × (c .before .t .given .0 .1 .0 < 500)
 inside c =
-    let a = c .before .before .before .before .before .args in
+    let a = c .before .before .before .before .before .before .args in
     let w = cell-carried (a .mode) (a .symbol) (a .c) (c .before .t .given .0 .0) (c .before .t .given .0 .1 .0)
     (sym (c .before .before .before .carried-in .ensures) ∙ c .before .t .given .1) in
     (w .0, w .1)
@@ -57,12 +57,12 @@ next t i = omega arith
 
 returns : tie.Need-returns
 returns c =
-    let a = c .before .before .before .before .args in
+    let a = c .before .before .before .before .before .args in
     ap (cellFor (a .level) (slotBit (a .mode) (a .bits .now))) (sym (c .enum-told .given .1) ∙ c .before .before .carried-in .ensures)
 
 returns-2 : tie.Need-returns-2
 returns-2 c =
-    let a = c .before .before .before .before .before .before .before .before .args in
+    let a = c .before .before .before .before .before .before .before .before .before .args in
     let t = c .before .before .before .before .t .given in
     let bit = row (a .bits .now) in
     ap Carries (c .point-of .ensures)

@@ -13,23 +13,32 @@ use Rattle.cells.proofs.read_slot.Statement.{statement}
 use Rattle.cells.proofs.read_slot.Tie as tie
 
 abbrev Inv-loop : tie.InvT-loop
-Inv-loop mode t firsts seconds decided₀ i₀ decided i =
+Inv-loop mode t firsts seconds decided₀ places i₀ decided i =
     (i ≤ 500) × Holds 0 (slotBits mode * slots mode)
     (readIn mode (slotBits mode * t) (slotBits mode * t + 2 * i) firsts seconds decided₀) decided
 
 abbrev μ-loop : tie.MeasureT-loop
-μ-loop mode t firsts seconds decided₀ i₀ decided i = 500 - i
+μ-loop mode t firsts seconds decided₀ places i₀ decided i = 500 - i
+
+places-requires : tie.Need-places-requires Inv-loop μ-loop
+places-requires c κs = tt
 
 loop-holds : tie.Need-loop-holds Inv-loop μ-loop
 loop-holds c =
-    let a = c .before .before .before .args in (
+    let a = c .before .before .before .before .args in (
       search needs,
       read-none (a .mode) (a .firsts .now) (a .seconds .now) (slotBits (a .mode) * slots (a .mode)) (slotBits (a .mode) * a .t)
-          (slotBits (a .mode) * a .t + 2 * 0) (a .decided .now) (omega arith) (c .before .before .before .pre .3),
+          (slotBits (a .mode) * a .t + 2 * 0) (a .decided .now) (omega arith) (c .before .before .before .before .pre .3),
     )
 
+slice-aggregate-point-cell : tie.Need-slice-aggregate-point-cell Inv-loop μ-loop
+slice-aggregate-point-cell c = search needs
+
 point-cell-requires : tie.Need-point-cell-requires Inv-loop μ-loop
-point-cell-requires c κs = omega (arith, slots-lt (c .before .before .before .before .before .args .mode))
+point-cell-requires c κs =
+    let p = c .before .before .before in
+    let few = slots-lt (p .before .before .before .before .args .mode) in
+    (p .places .ensures, omega arith, omega arith)
 
 point-in-requires : tie.Need-point-in-requires Inv-loop μ-loop
 point-in-requires c κs = search needs
@@ -63,14 +72,14 @@ loop-less c = omega arith
 
 loop-again : tie.Need-loop-again Inv-loop μ-loop
 loop-again c =
-    let a = c .before .before .before .before .before .before .before .before .args in
+    let a = c .before .before .before .before .before .before .before .before .before .before .args in
     let at = c .before .before .point-cell .ensures .0 in (
       omega arith,
       read-point (a .mode) (a .firsts .now) (a .seconds .now) (slotBits (a .mode) * slots (a .mode)) (a .t)
-          (c .before .before .before .before .loop .i) _ _ (a .decided .now) _ (omega arith) (omega arith)
+          (c .before .before .before .before .before .loop .i) _ _ (a .decided .now) _ (omega arith) (omega arith)
           (c .decide-point .ensures .0 ∙ ap decide (c .before .point-in .ensures .0 ∙ ap (λ (k : ℕ). getD (a .firsts .now) k zeroPart) at))
           (c .decide-point .ensures .1 ∙ ap decide (c .before .point-in .ensures .1 ∙ ap (λ (k : ℕ). getD (a .seconds .now) k zeroPart) at))
-          (c .before .before .before .before .loop .inv .1),
+          (c .before .before .before .before .before .loop .inv .1),
     )
 
 same-length : tie.Need-same-length Inv-loop μ-loop
@@ -81,7 +90,7 @@ ends t i e = omega arith
 
 returns : tie.Need-returns Inv-loop μ-loop
 returns c =
-    let a = c .before .before .before .before .before .args in
+    let a = c .before .before .before .before .before .before .args in
     read-to (a .mode) (a .firsts .now) (a .seconds .now) (slotBits (a .mode) * slots (a .mode)) (slotBits (a .mode) * a .t) (a .decided .now)
     (c .before .loop .decided) (ends (a .t) (c .before .loop .i) (omega arith)) (c .before .loop .inv .1)
 
@@ -91,7 +100,9 @@ read-slot-spec =
     (tie.spec
     Inv-loop
     μ-loop
+    places-requires
     loop-holds
+    slice-aggregate-point-cell
     point-cell-requires
     point-in-requires
     decide-point-requires

@@ -16,13 +16,13 @@ use Rattle.cells.proofs.write_symbol.Statement.{statement}
 use Rattle.cells.proofs.write_symbol.Tie as tie
 
 abbrev Inv-loop : tie.InvT-loop
-Inv-loop mode level bits symbol firsts₀ seconds₀ c₀ firsts seconds c =
+Inv-loop mode level bits symbol firsts₀ seconds₀ points c₀ firsts seconds c =
     (c ≤ 4096)
     × Holds zeroPart 4096 (upTo c (λ k. firstPart (symbolCell mode level bits symbol k)) (λ k. getD firsts₀ k zeroPart)) firsts
     × Holds zeroPart 4096 (upTo c (λ k. secondPart (symbolCell mode level bits symbol k)) (λ k. getD seconds₀ k zeroPart)) seconds
 
 abbrev μ-loop : tie.MeasureT-loop
-μ-loop mode level bits symbol firsts₀ seconds₀ c₀ firsts seconds c = 4096 - c
+μ-loop mode level bits symbol firsts₀ seconds₀ points c₀ firsts seconds c = 4096 - c
 
 fitting-requires : tie.Need-fitting-requires Inv-loop μ-loop
 fitting-requires c κs = search needs
@@ -38,17 +38,24 @@ passed : (c : tie.Else1 Inv-loop μ-loop)
     Fits (a .mode) (a .symbol) (length (a .bits .now)) (length (a .firsts .now)) (length (a .seconds .now)))
 passed c = fits _ _ _ _ _ (sym (c .before .fitting .ensures) ∙ not-false _ (c .if1 .left))
 
+points-requires : tie.Need-points-requires Inv-loop μ-loop
+points-requires c κs = tt
+
 loop-holds : tie.Need-loop-holds Inv-loop μ-loop
 loop-holds c = (
   search needs,
-  holds-first _ _ zeroPart (record { long = passed c .firsts-long; each = λ k l. refl }),
-  holds-first _ _ zeroPart (record { long = passed c .seconds-long; each = λ k l. refl }),
+  holds-first _ _ zeroPart (record { long = passed (c .before) .firsts-long; each = λ k l. refl }),
+  holds-first _ _ zeroPart (record { long = passed (c .before) .seconds-long; each = λ k l. refl }),
 )
+
+slice-aggregate-cell-at : tie.Need-slice-aggregate-cell-at Inv-loop μ-loop
+slice-aggregate-cell-at c = search needs
 
 cell-at-requires : tie.Need-cell-at-requires Inv-loop μ-loop
 cell-at-requires c κs =
-    let e = c .before .before in
-    (omega (arith, passed e .in-grid, slots-lt (e .before .before .before .before .before .args .mode)), passed e .bits-long)
+    let p = c .before .before .before in
+    let e = p .before in
+    (p .points .ensures, omega (arith, passed e .in-grid, slots-lt (e .before .before .before .before .before .args .mode)), passed e .bits-long)
 
 parts-of-requires : tie.Need-parts-of-requires Inv-loop μ-loop
 parts-of-requires c κs = search needs
@@ -74,22 +81,22 @@ loop-less c = omega arith
 loop-again : tie.Need-loop-again Inv-loop μ-loop
 loop-again c =
     let e = c .before .cell-at .ensures in
-    let inv = c .before .before .before .loop .inv in (
+    let inv = c .before .before .before .before .loop .inv in (
       omega arith,
       holds-next _ _ zeroPart _ _ (omega arith) (c .parts-of .ensures .0 ∙ ap firstPart e) (inv .1),
       holds-next _ _ zeroPart _ _ (omega arith) (c .parts-of .ensures .1 ∙ ap secondPart e) (inv .2),
     )
 
 same-length : tie.Need-same-length Inv-loop μ-loop
-same-length c = c .before .loop .inv .1 .long ∙ sym (passed (c .before .before) .firsts-long)
+same-length c = c .before .loop .inv .1 .long ∙ sym (passed (c .before .before .before) .firsts-long)
 
 same-length-2 : tie.Need-same-length-2 Inv-loop μ-loop
-same-length-2 c = c .before .loop .inv .2 .long ∙ sym (passed (c .before .before) .seconds-long)
+same-length-2 c = c .before .loop .inv .2 .long ∙ sym (passed (c .before .before .before) .seconds-long)
 
 returns-2 : tie.Need-returns-2 Inv-loop μ-loop
 returns-2 c =
     let inv = c .before .loop .inv in
-    let e = c .before .before in
+    let e = c .before .before .before in
     record {
       answer = sym (not-false _ (e .if1 .left)) ∙ e .before .fitting .ensures;
       done = λ _.
@@ -105,7 +112,9 @@ write-symbol-spec =
     μ-loop
     fitting-requires
     returns
+    points-requires
     loop-holds
+    slice-aggregate-cell-at
     cell-at-requires
     parts-of-requires
     mul-firsts

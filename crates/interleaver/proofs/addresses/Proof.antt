@@ -8,7 +8,8 @@ use lib.ListN.{length, getD, set, length-set}
 use lib.Seq.{getD-set-same, getD-set-other}
 use borrow.Author.Count.{below-more}
 use Rattle.rules.specs.Bits.{row}
-use Rattle.rules.specs.Interleaver.{tableD, address, nextKept, counter, interleaved}
+use Rattle.rules.specs.Kept.{nextKept, counter}
+use Rattle.rules.specs.Interleaver.{tableD, address, interleaved}
 use Rattle.interleaver.proofs.Interleaving.{counter5-lt}
 use Rattle.interleaver.proofs.addresses.Statement.{statement}
 use Rattle.interleaver.proofs.addresses.Tie as tie
@@ -16,26 +17,26 @@ use Rattle.interleaver.proofs.addresses.Tie as tie
 -- the first i addresses are in, and the counter of the i-th is the next that is kept
 record Filled (out : List ℕ) (from i : ℕ) : Type 0 where
   most : i ≤ 994
-  next : nextKept 5 (row tableD) 994 1024 from ≡ counter 5 (row tableD) 994 i
+  next : nextKept (address 5 (row tableD)) 994 1024 from ≡ counter (address 5 (row tableD)) 1024 994 i
   long : length out ≡ 994
   each : (k : ℕ) → k < i → getD out k 0 ≡ interleaved 5 (row tableD) 994 k
 
 -- one turn stores the address a of counter m
 filled-more :
-    {out : List ℕ} {from i : ℕ} (a m : ℕ) → Filled out from i → i < 994 → m ≡ nextKept 5 (row tableD) 994 1024 from
+    {out : List ℕ} {from i : ℕ} (a m : ℕ) → Filled out from i → i < 994 → m ≡ nextKept (address 5 (row tableD)) 994 1024 from
     → a ≡ address 5 (row tableD) m → Filled (set out i a) (m + 1) (i + 1)
 unfolding counter interleaved
 filled-more {out} {from} {i} a m f lt em ea =
     record {
       most = omega arith;
-      next = rw (add-one m, add-one i) (ap (λ (x : ℕ). nextKept 5 (row tableD) 994 1024 (suc x)) at);
+      next = rw (add-one m, add-one i) (ap (λ (x : ℕ). nextKept (address 5 (row tableD)) 994 1024 (suc x)) at);
       long = length-set out i a ∙ f .long;
       each = below-more (λ k. getD (set out i a) k 0 ≡ interleaved 5 (row tableD) 994 k) i
           (λ k l. getD-set-other out i k a 0 (omega arith) ∙ f .each k l)
           (getD-set-same out i a 0 (omega (arith, f .long)) ∙ ea ∙ ap (address 5 (row tableD)) at);
     }
   where
-    at : m ≡ counter 5 (row tableD) 994 i
+    at : m ≡ counter (address 5 (row tableD)) 1024 994 i
     at = em ∙ f .next
 
 abbrev Inv-loop : tie.InvT-loop

@@ -4,13 +4,14 @@ use Prim.Native.Nat.{ℕ, suc, _+_, _-_, _≤_, _<_}
 use native.Mathlib.Omega.{arith}
 use borrow.Author.Tests.{lt-ltb, le-ltb}
 use Rattle.rules.specs.Bits.{row}
-use Rattle.rules.specs.Interleaver.{tableD, address, nextKept}
+use Rattle.rules.specs.Kept.{nextKept}
+use Rattle.rules.specs.Interleaver.{tableD, address}
 use Rattle.interleaver.proofs.Interleaving.{next-here, next-later, next-le}
 use Rattle.interleaver.proofs.next_kept.Statement.{statement}
 use Rattle.interleaver.proofs.next_kept.Tie as tie
 
 abbrev next : ℕ → ℕ → ℕ
-next = nextKept 5 (row tableD) 994
+next = nextKept (address 5 (row tableD)) 994
 
 -- there is one to find from m, and from i, in the turns that are left, the rule finds the same
 record Finds (m i : ℕ) : Type 0 where
