@@ -180,7 +180,8 @@ fn take_slot(profile: &Profile, t: usize, firsts: &[f32], seconds: &[f32], bits:
     for (i, pair) in bits.chunks_exact_mut(2).enumerate() {
         let cell = point_cell(number, i);
         let (a, b) = (firsts[cell], seconds[cell]);
-        certain &= (a > 0.0 || a < 0.0) && (b > 0.0 || b < 0.0);
+        // No branches, since signs can't be predicted.
+        certain &= ((a > 0.0) | (a < 0.0)) & ((b > 0.0) | (b < 0.0));
         (pair[0], pair[1]) = ((a < 0.0) as u8, (b < 0.0) as u8);
     }
     scramble(profile.seeds[t], profile.masks[number], bits);
