@@ -1,4 +1,4 @@
-//! Document 01's printed examples, held against the plain program before it is used as a measure.
+//! Document 01's printed examples and the ends of Req 01's order, held against the plain program before it is used as a measure.
 
 use crate::check_tools::Tally;
 use crate::plain::{self, Encoder, Profile, CELLS, PACKET};
@@ -6,7 +6,7 @@ use crate::plain::{self, Encoder, Profile, CELLS, PACKET};
 /// Compares one example and counts a difference when it doesn't come out.
 fn example<T: PartialEq + std::fmt::Debug>(tally: &mut Tally, name: &str, came: T, printed: T) {
     if came != printed {
-        tally.difference(&format!("document 01, {name}: the plain program gives {came:?}, not {printed:?}"));
+        tally.difference(&format!("the documents' {name}: the plain program gives {came:?}, not {printed:?}"));
     }
 }
 
@@ -44,6 +44,9 @@ fn cells(tally: &mut Tally) {
     example(tally, "P8", [249, 250].map(|i| plain::interlace(0, i)), [2040, 2056]);
     example(tally, "P9", [0, 499].map(|i| plain::interlace(3, i)), [51, 4043]);
     example(tally, "P10", [7, 47].map(plain::slot_place), [(1, 1), (6, 6)]);
+    // The first by Req 01's sentence; the last are 508 to 510 with their nine bits reversed, since 511 is dropped.
+    example(tally, "Req 01", plain::PLACES[..8].to_vec(), vec![0, 256, 128, 384, 64, 320, 192, 448]);
+    example(tally, "Req 01, at its end", plain::PLACES[497..].to_vec(), vec![127, 383, 255]);
 }
 
 /// K = 14, cells as sent, packets 2, 5 and 9 marked.

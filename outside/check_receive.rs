@@ -5,7 +5,7 @@
 use crate::check_profile::{damaged, random_profile, written, KS, MODES};
 use crate::check_send::{near, often_right};
 use crate::check_tools::{Call, Random, Room, Tally};
-use crate::plain::{self, Block, Profile, CELLS, ENTERING, PACKET, PACKETS, SLOT};
+use crate::plain::{self, Block, Profile, CELLS, ENTERING, PACKET, PACKETS, POINTS, SLOT};
 use crate::plain::{ACCEPTED, CHECK_WORD, CODED_BITS, DOUBTFUL, MARKED, RESERVED};
 use crate::library;
 
@@ -69,7 +69,7 @@ impl Receiving {
     /// The part that carries bit b of packet p.
     fn part(&mut self, p: usize, b: usize) -> &mut f32 {
         let (symbol, number) = plain::slot_place(p * self.profile.n() + b / SLOT);
-        let cell = CELLS * symbol + plain::interlace(number, b % SLOT / 2);
+        let cell = CELLS * symbol + plain::point_cell(number, b % SLOT / 2);
         if b % 2 == 0 { &mut self.firsts[cell] } else { &mut self.seconds[cell] }
     }
 
@@ -143,9 +143,9 @@ impl Receiving {
     /// Any bit patterns in all cells that aren't the block's own: the receiver must not look at them.
     fn garbage_elsewhere(&mut self, random: &mut Random) {
         let mut own = vec![false; self.firsts.len()];
-        for (t, i) in (0..self.profile.slots()).flat_map(|t| (0..SLOT / 2).map(move |i| (t, i))) {
+        for (t, i) in (0..self.profile.slots()).flat_map(|t| (0..POINTS).map(move |i| (t, i))) {
             let (symbol, number) = plain::slot_place(t);
-            own[CELLS * symbol + plain::interlace(number, i)] = true;
+            own[CELLS * symbol + plain::point_cell(number, i)] = true;
         }
         for cell in (0..own.len()).filter(|&cell| !own[cell]) {
             (self.firsts[cell], self.seconds[cell]) = (random.float(), random.float());

@@ -1,5 +1,5 @@
-"""An independent sender and receiver, written from document 01's text alone and in another way than the crates: whole lists, integers as
-polynomials, no tables shared with them. The vectors under outside/ and crates/*/stdout that say so come from here.
+"""An independent sender and receiver, written from the text of document 01 and of document 02's Req 01 alone and in another way than the crates:
+whole lists, integers as polynomials, no tables shared with them. The vectors under outside/ and crates/*/stdout that say so come from here.
 
     python3 outside/flo.py NAME      prints the vectors of that name (the names are at the end of this file)
 """
@@ -127,6 +127,16 @@ def interlace(k):
     cells = [c for c in range(48 + k, 4096, 8) if c != 2048]
     return cells[:500]
 
+def places():
+    """Of points 0 to 499, by Req 01: 0 to 511, each with its nine bits reversed, without those of 500 and above."""
+    reversed_bits = [int(f"{i:09b}"[::-1], 2) for i in range(512)]
+    return [place for place in reversed_bits if place < 500]
+
+def point_cells(k):
+    """The cells of points 0 to 499 of slot number k."""
+    cells = interlace(k)
+    return [cells[place] for place in places()]
+
 def block(data, k):
     packets = [list(data[122 * p:122 * p + 122]) for p in range(k)]
     extra = [[] for _ in range(16 - k)]
@@ -145,7 +155,7 @@ def send(profile, data):
         number = 1 + t % 7
         noise = scrambling(seeds[t], masks[number], 1000)
         slot = [a ^ b for a, b in zip(bits[1000 * t:1000 * t + 1000], noise)]
-        for i, c in enumerate(interlace(number)):
+        for i, c in enumerate(point_cells(number)):
             grid[t // 7][c] = tuple(-level if s else level for s in slot[2 * i:2 * i + 2])
     return grid
 
@@ -278,7 +288,7 @@ def slot_lines():
 
 def cell_lines():
     for mode, slots, shown, edged in (0, 48, (0, 1, 5, 6, 7), (0, 6)), (1, 32, (0, 3, 4, 5), (4,)):
-        carried = {(t // 7, c): (t, i) for t in range(slots) for i, c in enumerate(interlace(1 + t % 7))}
+        carried = {(t // 7, c): (t, i) for t in range(slots) for i, c in enumerate(point_cells(1 + t % 7))}
         for symbol in shown:
             row = [carried.get((symbol, c)) for c in range(4096)]
             yield "cells", mode, symbol, 4096 - row.count(None), word([(p[0] * 500 + p[1]) % 251 + 1 if p else 0 for p in row], 8)
@@ -380,7 +390,14 @@ def profiles_stdin():
         sys.stdout.buffer.write(struct.pack(">H", len(data)) + data)
     return ()
 
-NAMES = {"vectors": vectors, "profiles": profiles, "profiles-stdin": profiles_stdin}
+# ---- the order of points by itself: its check words, to be held against a table's, and its first and last places
+
+def place_lines():
+    order = places()
+    for width in 9, 16:
+        yield "places", width, word(order, width), *order[:8], *order[-3:]
+
+NAMES = {"vectors": vectors, "profiles": profiles, "profiles-stdin": profiles_stdin, "places": place_lines}
 
 if __name__ == "__main__":
     if len(sys.argv) != 2 or sys.argv[1] not in NAMES:

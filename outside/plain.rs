@@ -1,7 +1,8 @@
-//! An independent sender and receiver, written from document 01's text alone and in the ordinary way: log tables, precomputed
-//! addresses, one bit per byte. The outside tests compare the C library with it, and the benchmark times the two side by side.
+//! An independent sender and receiver, written from the text of document 01 and of document 02's Req 01 alone and in the ordinary
+//! way: log tables, precomputed addresses and places, one bit per byte. The outside tests compare the C library with it, and the
+//! benchmark times the two side by side.
 //!
-//! Names are document 01's. `r` is 16 - K, `n` the slots of one packet, `p` a packet, `t` a block slot, `j` a column.
+//! Names are the documents'. `r` is 16 - K, `n` the slots of one packet, `p` a packet, `t` a block slot, `j` a column.
 
 #[path = "plain_codes.rs"]
 mod codes;
@@ -17,6 +18,7 @@ pub const PACKET: usize = 122; // data bytes of a packet
 pub const PACKETS: usize = 16;
 pub const BLOCK: usize = PACKET * PACKETS;
 pub const SLOT: usize = 1000; // bits of a slot
+pub const POINTS: usize = SLOT / 2; // points of a slot
 pub const PROFILE: usize = 245; // bytes of the largest profile
 pub const ENTERING: usize = 994; // bits of a packet that enter the turbo code
 
@@ -60,6 +62,29 @@ pub fn interlace(k: usize, i: usize) -> usize {
     if k == 0 && i >= 250 { 56 + 8 * i } else { 48 + k + 8 * i }
 }
 
+/// The place of each point in its interlace, by Req 01.
+pub static PLACES: [usize; POINTS] = places();
+
+/// Runs i from 0 to 511, reverses its nine bits and drops what is 500 or above.
+const fn places() -> [usize; POINTS] {
+    let mut kept = [0; POINTS];
+    let (mut i, mut n) = (0u16, 0);
+    while i < 512 {
+        let place = (i.reverse_bits() >> 7) as usize;
+        if place < 500 {
+            kept[n] = place;
+            n += 1;
+        }
+        i += 1;
+    }
+    kept
+}
+
+/// The cell of point i of a slot that has number k.
+pub fn point_cell(k: usize, i: usize) -> usize {
+    interlace(k, PLACES[i])
+}
+
 /// Writes packet p's slots into those symbols of the grid that are lent.
 pub fn put_packet(profile: &Profile, p: usize, bits: &[u8; ENTERING], symbols: &Range<usize>, firsts: &mut [f32], seconds: &mut [f32]) {
     let n = profile.n();
@@ -75,8 +100,9 @@ pub fn put_packet(profile: &Profile, p: usize, bits: &[u8; ENTERING], symbols: &
         let base = CELLS * (symbol - symbols.start);
         let (firsts, seconds) = (&mut firsts[base..base + CELLS], &mut seconds[base..base + CELLS]);
         for (i, pair) in slot.chunks_exact(2).enumerate() {
-            firsts[interlace(number, i)] = points[pair[0] as usize];
-            seconds[interlace(number, i)] = points[pair[1] as usize];
+            let cell = point_cell(number, i);
+            firsts[cell] = points[pair[0] as usize];
+            seconds[cell] = points[pair[1] as usize];
         }
     }
 }
@@ -152,8 +178,10 @@ fn take_slot(profile: &Profile, t: usize, firsts: &[f32], seconds: &[f32], bits:
     let (firsts, seconds) = (&firsts[base..base + CELLS], &seconds[base..base + CELLS]);
     let mut certain = true;
     for (i, pair) in bits.chunks_exact_mut(2).enumerate() {
-        let (a, b) = (firsts[interlace(number, i)], seconds[interlace(number, i)]);
-        certain &= (a > 0.0 || a < 0.0) && (b > 0.0 || b < 0.0);
+        let cell = point_cell(number, i);
+        let (a, b) = (firsts[cell], seconds[cell]);
+        // No branches, since signs can't be predicted.
+        certain &= ((a > 0.0) | (a < 0.0)) & ((b > 0.0) | (b < 0.0));
         (pair[0], pair[1]) = ((a < 0.0) as u8, (b < 0.0) as u8);
     }
     scramble(profile.seeds[t], profile.masks[number], bits);

@@ -85,10 +85,21 @@ static int no_answer(const struct block *b) {
 
 /* ---- where a packet is */
 
+/* The place of a point among its slot's cells: the numbers 0 to 511 with their nine bits reversed, those below 500 in that order. */
+static unsigned place_of(unsigned point) {
+    unsigned i, bit, kept = 0;
+    for (i = 0; i < 512; i++) {
+        unsigned place = 0;
+        for (bit = 0; bit < 9; bit++) place = 2 * place + (i >> bit & 1);
+        if (place < 500 && kept++ == point) return place;
+    }
+    return 0;
+}
+
 /* The part that carries a bit of packet p as it goes out (after the bit interleaver): point i of a slot is a cell, bit 2i its first part. */
 static float *part_of(struct block *b, unsigned p, unsigned bit) {
-    unsigned slot = (b->mode == 0 ? 3 : 2) * p + bit / 1000, point = bit % 1000 / 2;
-    unsigned cell = slot / 7 * FLO_SYMBOL_CELLS + 49 + slot % 7 + 8 * point;
+    unsigned slot = (b->mode == 0 ? 3 : 2) * p + bit / 1000, place = place_of(bit % 1000 / 2);
+    unsigned cell = slot / 7 * FLO_SYMBOL_CELLS + 49 + slot % 7 + 8 * place;
     return bit % 2 == 0 ? &b->firsts[cell] : &b->seconds[cell];
 }
 
