@@ -5,14 +5,21 @@ use mathlib.Core.List.{List}
 use Prim.Native.Nat.{ℕ, _+_, _*_, _/_, _%_, min}
 use lib.Dec.{eqb, leb, ltb}
 use lib.Ieee.{Float}
-use lib.ListN.{length}
+use lib.ListN.{length, getD}
 use Rattle.rules.specs.Bits.{pick, row}
 use Rattle.rules.specs.Slots.{slots, slotBits, symbols, symbolOf}
-use Rattle.rules.specs.Points.{zeroPart, firstPart, secondPart, decide}
+use Rattle.rules.specs.Points.{part, zeroPart, firstPart, secondPart, decide}
 use Rattle.rules.specs.Cells.{carried, pointCell}
 use Rattle.rules.specs.Block.{cellFor, partOf}
 use Rattle.rules.specs.declared.Cell.{Cell}
 use Rattle.laws.specs.Holds.{Holds}
+
+-- the parts that the bits make at a level, as a list by bit; bit 0 makes the level
+abbrev pub Signed : Float → List Float → Type 0
+Signed level l = Holds zeroPart 256 (part level) l
+
+abbrev pub levelOf : List Float → Float
+levelOf l = getD l 0 zeroPart
 
 -- a block's bits as a list, slot after slot
 abbrev pub slotBit : ℕ → List ℕ → ℕ → ℕ → ℕ
@@ -46,11 +53,19 @@ abbrev pub heardIn : ℕ → List Float → List Float → ℕ → ℕ
 heardIn m firsts seconds g =
     decide (partOf (g % slotBits m) firsts seconds (pointCell (g / slotBits m) (g % slotBits m / 2)))
 
--- the bits from one to before another so, and else what stood there before
-abbrev pub readIn : ℕ → ℕ → ℕ → List Float → List Float → List ℕ → ℕ → ℕ
-readIn m from to firsts seconds before g = pick (leb from g && ltb g to) (heardIn m firsts seconds g) (row before g)
+-- the decisions of all cells of a symbol in one list: those of cell c are at 2c and 2c + 1
+abbrev pub Decisions : List Float → List Float → List ℕ → Type 0
+Decisions firsts seconds l = Holds 0 8192 (λ n. decide (partOf n firsts seconds (n / 2))) l
 
--- the bits of the symbol so, and else what stood there before
+-- bit g of the block among such decisions
+abbrev pub chosen : ℕ → List ℕ → ℕ → ℕ
+chosen m l g = row l (2 * pointCell (g / slotBits m) (g % slotBits m / 2) + g % slotBits m % 2)
+
+-- the bits from one to before another so, and else what stood there before
+abbrev pub readIn : ℕ → ℕ → ℕ → List ℕ → List ℕ → ℕ → ℕ
+readIn m from to l before g = pick (leb from g && ltb g to) (chosen m l g) (row before g)
+
+-- the bits of the symbol as its cells decide them, and else what stood there before
 abbrev pub decidedIn : ℕ → ℕ → List Float → List Float → List ℕ → ℕ → ℕ
 decidedIn m symbol firsts seconds before g =
     pick (eqb (symbolOf (g / slotBits m)) symbol) (heardIn m firsts seconds g) (row before g)

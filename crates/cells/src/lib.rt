@@ -11,7 +11,7 @@ ghost use Rattle.laws.specs.Holds.{Holds};
 ghost use Rattle.cells.specs.Order.{Places, Points};
 ghost use Rattle.cells.specs.Spot.{belonging};
 ghost use Rattle.cells.specs.Symbol as symbolRule;
-ghost use Rattle.cells.specs.Symbol.{symbolCell, WriteRule, slotsEnd, readIn, ReadRule};
+ghost use Rattle.cells.specs.Symbol.{Signed, levelOf, symbolCell, WriteRule, slotsEnd, Decisions, readIn, ReadRule};
 
 mod order;
 
@@ -33,23 +33,30 @@ enum Spot {
     Place(usize, usize),
 }
 
-// A bit 1 makes the part -level.
-fn part(level: f32, bit: u8) -> f32
-    ensures { λ r. ⌜ r ≡ points.part level bit ⌝ }
+// The part that each byte makes as a bit, -level for 1. Looked up and not branched on: nothing foretells a scrambled bit.
+fn signed(level: f32) -> [f32; 256]
+    ensures { λ r. ⌜ Signed level r ⌝ }
 {
-    if bit == 1 {
-        return -level;
+    let mut out = [level; 256];
+    out[1] = -level;
+    out
+}
+
+fn point_by(signed: &[f32], s0: u8, s1: u8) -> Point
+    requires { ⌜ Signed (levelOf (now signed)) (now signed) ⌝ }
+    ensures { λ r. ⌜ r ≡ pointOf (levelOf (now (signed .entry))) s0 s1 ⌝ }
+{
+    Point {
+        first: signed[s0 as usize],
+        second: signed[s1 as usize],
     }
-    level
 }
 
 pub fn point_of(level: f32, s0: u8, s1: u8) -> Point
     ensures { λ r. ⌜ r ≡ pointOf level s0 s1 ⌝ }
 {
-    Point {
-        first: part(level, s0),
-        second: part(level, s1),
-    }
+    let signed = signed(level);
+    point_by(&signed, s0, s1)
 }
 
 pub fn decide(part: f32) -> u8
@@ -192,15 +199,16 @@ pub fn carried(mode: u8, symbol: usize, c: usize) -> Carried
 }
 
 // The cell of a symbol whose block has these scrambled bits.
-fn cell_at(points: &[u16], mode: u8, level: f32, bits: &[u8], symbol: usize, c: usize) -> Cell
-    requires { ⌜ Points (now points) × (symbol < 4096) × (length (now bits) ≡ slotBits mode * slots mode) ⌝ }
-    ensures { λ r. ⌜ r ≡ symbolCell mode level (now (bits .entry)) symbol c ⌝ }
+fn cell_at(points: &[u16], signed: &[f32], mode: u8, bits: &[u8], symbol: usize, c: usize) -> Cell
+    requires { ⌜ Points (now points) × Signed (levelOf (now signed)) (now signed)
+        × (symbol < 4096) × (length (now bits) ≡ slotBits mode * slots mode) ⌝ }
+    ensures { λ r. ⌜ r ≡ symbolCell mode (levelOf (now (signed .entry))) (now (bits .entry)) symbol c ⌝ }
 {
     match carried_in(points, mode, symbol, c) {
         Carried::Nothing => Cell::Silent,
         Carried::PointOf(t, i) => {
             let at = 1000 * t + 2 * i;
-            Cell::Carries(point_of(level, bits[at], bits[at + 1]))
+            Cell::Carries(point_by(signed, bits[at], bits[at + 1]))
         }
     }
 }
@@ -250,8 +258,9 @@ pub fn write_symbol(
         return false;
     }
     let points = points();
+    let signed = signed(level);
     for c in 0..4096 {
-        let cell = cell_at(&points, mode, level, bits, symbol, c);
+        let cell = cell_at(&points, &signed, mode, bits, symbol, c);
         let parts = parts_of(cell);
         firsts[c] = parts.first;
         seconds[c] = parts.second;
@@ -291,21 +300,33 @@ fn point_in(firsts: &[f32], seconds: &[f32], c: usize) -> Point
     }
 }
 
-// The decisions of block slot t's 500 points, from its symbol's cells.
-fn read_slot(mode: u8, t: usize, firsts: &[f32], seconds: &[f32], decided: &mut [u8])
-    requires { ⌜ (t < slots mode) × (length (now firsts) ≡ 4096) × (length (now seconds) ≡ 4096)
+// The decisions of a symbol's cells, one after the other: taken in the points' order they would cost a receive a quarter more.
+fn decisions(firsts: &[f32], seconds: &[f32]) -> [u8; 8192]
+    requires { ⌜ (length (now firsts) ≡ 4096) × (length (now seconds) ≡ 4096) ⌝ }
+    ensures { λ r. ⌜ Decisions (now (firsts .entry)) (now (seconds .entry)) r ⌝ }
+{
+    let mut out = [0u8; 8192];
+    for c in 0..4096 {
+        let d = decide_point(point_in(firsts, seconds, c));
+        out[2 * c] = d.s0;
+        out[2 * c + 1] = d.s1;
+    }
+    out
+}
+
+// The decisions of block slot t's 500 points, from its symbol's.
+fn read_slot(mode: u8, t: usize, places: &[u16], heard: &[u8], decided: &mut [u8])
+    requires { ⌜ (t < slots mode) × Places (now places) × (length (now heard) ≡ 8192)
         × (length (now decided) ≡ slotBits mode * slots mode) ⌝ }
     ensures { λ _. ⌜ Holds 0 (slotBits mode * slots mode)
-        (readIn mode (slotBits mode * t) (slotBits mode * (t + 1)) (now (firsts .entry)) (now (seconds .entry)) (now (decided .entry)))
+        (readIn mode (slotBits mode * t) (slotBits mode * (t + 1)) (now (heard .entry)) (now (decided .entry)))
         (now (decided .exit)) ⌝ }
 {
-    let places = places();
     for i in 0..500 {
-        let c = point_cell(&places, t, i);
-        let d = decide_point(point_in(firsts, seconds, c));
+        let c = point_cell(places, t, i);
         let at = 1000 * t + 2 * i;
-        decided[at] = d.s0;
-        decided[at + 1] = d.s1;
+        decided[at] = heard[2 * c];
+        decided[at + 1] = heard[2 * c + 1];
     }
 }
 
@@ -334,9 +355,11 @@ pub fn read_symbol(
     if !fitting(mode, symbol, decided.len(), firsts.len(), seconds.len()) {
         return false;
     }
+    let places = places();
+    let heard = decisions(firsts, seconds);
     let end = slots_end(mode, symbol);
     for t in 7 * symbol..end {
-        read_slot(mode, t, firsts, seconds, decided);
+        read_slot(mode, t, &places, &heard, decided);
     }
     true
 }

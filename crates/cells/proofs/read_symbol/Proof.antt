@@ -15,12 +15,12 @@ use Rattle.cells.proofs.read_symbol.Statement.{statement}
 use Rattle.cells.proofs.read_symbol.Tie as tie
 
 abbrev Inv-loop : tie.InvT-loop
-Inv-loop mode symbol firsts seconds decided₀ end t₀ decided t =
+Inv-loop mode symbol firsts seconds decided₀ places heard end t₀ decided t =
     (7 * symbol ≤ t) × (t ≤ end) × Holds 0 (slotBits mode * slots mode)
-    (readIn mode (slotBits mode * (7 * symbol)) (slotBits mode * t) firsts seconds decided₀) decided
+    (readIn mode (slotBits mode * (7 * symbol)) (slotBits mode * t) heard decided₀) decided
 
 abbrev μ-loop : tie.MeasureT-loop
-μ-loop mode symbol firsts seconds decided₀ end t₀ decided t = end - t
+μ-loop mode symbol firsts seconds decided₀ places heard end t₀ decided t = end - t
 
 fitting-requires : tie.Need-fitting-requires Inv-loop μ-loop
 fitting-requires c κs = search needs
@@ -36,27 +36,42 @@ passed : (c : tie.Else1 Inv-loop μ-loop)
     Fits (a .mode) (a .symbol) (length (a .decided .now)) (length (a .firsts .now)) (length (a .seconds .now)))
 passed c = fits _ _ _ _ _ (sym (c .before .fitting .ensures) ∙ not-false _ (c .if1 .left))
 
+places-requires : tie.Need-places-requires Inv-loop μ-loop
+places-requires c κs = tt
+
+decisions-requires : tie.Need-decisions-requires Inv-loop μ-loop
+decisions-requires c κs = (passed (c .before) .firsts-long, passed (c .before) .seconds-long)
+
 slots-end-requires : tie.Need-slots-end-requires Inv-loop μ-loop
-slots-end-requires c κs = passed c .in-grid
+slots-end-requires c κs = passed (c .before .before) .in-grid
+
+abbrev start : tie.After-slots-end Inv-loop μ-loop → tie.Start Inv-loop μ-loop
+start c = c .before .before .before .before .before .before .before .before
 
 mul-t : tie.Need-mul-t Inv-loop μ-loop
-mul-t c = omega (arith, passed (c .before) .in-grid, slots-lt (c .before .before .before .before .before .before .args .mode))
+mul-t c = omega (arith, passed (c .before .before .before) .in-grid, slots-lt (start c .args .mode))
 
 loop-holds : tie.Need-loop-holds Inv-loop μ-loop
 loop-holds c =
-    let a = c .before .before .before .before .before .before .args in
-    let from = slotBits (a .mode) * (7 * a .symbol) in (
+    let a = start c .args in
+    let from = slotBits (a .mode) * (7 * a .symbol) in
+    let ok = passed (c .before .before .before) in (
       omega arith,
-      omega (arith, passed (c .before) .in-grid),
-      read-none (a .mode) (a .firsts .now) (a .seconds .now) (slotBits (a .mode) * slots (a .mode)) from from (a .decided .now)
-          (omega arith) (passed (c .before) .bits-long),
+      omega (arith, ok .in-grid),
+      read-none (a .mode) (c .before .decisions .result) (slotBits (a .mode) * slots (a .mode)) from from (a .decided .now) (omega arith) (ok .bits-long),
     )
+
+slice-aggregate-read-slot : tie.Need-slice-aggregate-read-slot Inv-loop μ-loop
+slice-aggregate-read-slot c = search needs
+
+slice-aggregate-read-slot-2 : tie.Need-slice-aggregate-read-slot-2 Inv-loop μ-loop
+slice-aggregate-read-slot-2 c = search needs
 
 read-slot-requires : tie.Need-read-slot-requires Inv-loop μ-loop
 read-slot-requires c κs =
-    let l = c .before .before in
-    let ok = passed (l .before .before) in
-    (omega arith, ok .firsts-long, ok .seconds-long, l .loop .inv .2 .long)
+    let l = c .before .before .before .before in
+    let heard = l .before .before in
+    (omega arith, heard .before .places .ensures, heard .decisions .ensures .long, l .loop .inv .2 .long)
 
 add-t : tie.Need-add-t Inv-loop μ-loop
 add-t c = omega arith
@@ -66,30 +81,31 @@ loop-less c = omega arith
 
 loop-again : tie.Need-loop-again Inv-loop μ-loop
 loop-again c =
-    let l = c .before .before .before .before .before in
-    let a = l .before .before .before .before .before .before .before .args in
+    let l = c .before .before .before .before .before .before .before in
+    let a = start (l .before) .args in
     let t = l .loop .t in (
       omega arith,
       omega arith,
-      read-join (a .mode) (a .firsts .now) (a .seconds .now) (slotBits (a .mode) * slots (a .mode))
+      read-join (a .mode) (l .before .before .decisions .result) (slotBits (a .mode) * slots (a .mode))
           (slotBits (a .mode) * (7 * a .symbol)) (slotBits (a .mode) * t) (slotBits (a .mode) * (t + 1)) (a .decided .now)
           (l .loop .decided) (c .before .before .read-slot .last .1 .1 .1 .1 .0)
           (omega arith) (omega arith) (l .loop .inv .2) (c .before .before .read-slot .ensures),
     )
 
 same-length : tie.Need-same-length Inv-loop μ-loop
-same-length c = c .before .loop .inv .2 .long ∙ sym (passed (c .before .before .before) .bits-long)
+same-length c = c .before .loop .inv .2 .long ∙ sym (passed (c .before .before .before .before .before) .bits-long)
 
 returns-2 : tie.Need-returns-2 Inv-loop μ-loop
 returns-2 c =
     let l = c .before in
-    let e = l .before .before in
-    let a = e .before .before .before .before .before .args in
+    let heard = l .before .before in
+    let e = heard .before .before in
+    let a = start (l .before) .args in
     record {
       answer = sym (not-false _ (e .if1 .left)) ∙ e .before .fitting .ensures;
       done = λ _.
-          decided-read (a .mode) (a .symbol) (l .loop .t) (a .firsts .now) (a .seconds .now) (a .decided .now) (l .loop .decided)
-          (omega arith) (l .loop .inv .2);
+          decided-read (a .mode) (a .symbol) (l .loop .t) (a .firsts .now) (a .seconds .now) (heard .decisions .result) (a .decided .now)
+          (l .loop .decided) (heard .decisions .ensures) (omega arith) (l .loop .inv .2);
       kept = λ e. absurd (true≢false e);
     }
 
@@ -101,9 +117,13 @@ read-symbol-spec =
     μ-loop
     fitting-requires
     returns
+    places-requires
+    decisions-requires
     slots-end-requires
     mul-t
     loop-holds
+    slice-aggregate-read-slot
+    slice-aggregate-read-slot-2
     read-slot-requires
     add-t
     loop-less

@@ -1,8 +1,9 @@
 -- `cells::write_symbol` meets its contract. The loop's invariant: each of the two lists has the parts of the cells before c.
-use mathlib.Core.Path.{refl, sym, _∙_, ap}
+use mathlib.Core.Path.{_≡_, refl, sym, _∙_, ap}
 use mathlib.Core.Bool.{true≢false}
 use Prim.Native.Nat.{_-_, _≤_}
 use native.Mathlib.Omega.{arith}
+use lib.Ieee.{Float}
 use lib.ListN.{length, getD}
 use borrow.Author.Needs.{needs}
 use borrow.Author.Tests.{not-true, not-false}
@@ -11,18 +12,19 @@ use Rattle.cells.specs.Symbol.{symbolCell}
 use Rattle.laws.specs.Holds.{Holds}
 use Rattle.laws.specs.Filled.{upTo, holds-first, holds-next, holds-whole}
 use Rattle.cells.proofs.Heard.{slots-lt}
+use Rattle.cells.proofs.Signs.{signed-level, signed-own}
 use Rattle.cells.proofs.Fits.{Fits, fits}
 use Rattle.cells.proofs.write_symbol.Statement.{statement}
 use Rattle.cells.proofs.write_symbol.Tie as tie
 
 abbrev Inv-loop : tie.InvT-loop
-Inv-loop mode level bits symbol firsts₀ seconds₀ points c₀ firsts seconds c =
+Inv-loop mode level bits symbol firsts₀ seconds₀ points signed c₀ firsts seconds c =
     (c ≤ 4096)
     × Holds zeroPart 4096 (upTo c (λ k. firstPart (symbolCell mode level bits symbol k)) (λ k. getD firsts₀ k zeroPart)) firsts
     × Holds zeroPart 4096 (upTo c (λ k. secondPart (symbolCell mode level bits symbol k)) (λ k. getD seconds₀ k zeroPart)) seconds
 
 abbrev μ-loop : tie.MeasureT-loop
-μ-loop mode level bits symbol firsts₀ seconds₀ points c₀ firsts seconds c = 4096 - c
+μ-loop mode level bits symbol firsts₀ seconds₀ points signed c₀ firsts seconds c = 4096 - c
 
 fitting-requires : tie.Need-fitting-requires Inv-loop μ-loop
 fitting-requires c κs = search needs
@@ -41,21 +43,31 @@ passed c = fits _ _ _ _ _ (sym (c .before .fitting .ensures) ∙ not-false _ (c 
 points-requires : tie.Need-points-requires Inv-loop μ-loop
 points-requires c κs = tt
 
+signed-requires : tie.Need-signed-requires Inv-loop μ-loop
+signed-requires c κs = tt
+
+abbrev start : tie.After-signed Inv-loop μ-loop → tie.Start Inv-loop μ-loop
+start c = c .before .before .before .before .before .before .before
+
 loop-holds : tie.Need-loop-holds Inv-loop μ-loop
 loop-holds c = (
   search needs,
-  holds-first _ _ zeroPart (record { long = passed (c .before) .firsts-long; each = λ k l. refl }),
-  holds-first _ _ zeroPart (record { long = passed (c .before) .seconds-long; each = λ k l. refl }),
+  holds-first _ _ zeroPart (record { long = passed (c .before .before) .firsts-long; each = λ k l. refl }),
+  holds-first _ _ zeroPart (record { long = passed (c .before .before) .seconds-long; each = λ k l. refl }),
 )
+
+slice-aggregate-cell-at-2 : tie.Need-slice-aggregate-cell-at-2 Inv-loop μ-loop
+slice-aggregate-cell-at-2 c = search needs
 
 slice-aggregate-cell-at : tie.Need-slice-aggregate-cell-at Inv-loop μ-loop
 slice-aggregate-cell-at c = search needs
 
 cell-at-requires : tie.Need-cell-at-requires Inv-loop μ-loop
 cell-at-requires c κs =
-    let p = c .before .before .before in
-    let e = p .before in
-    (p .points .ensures, omega (arith, passed e .in-grid, slots-lt (e .before .before .before .before .before .args .mode)), passed e .bits-long)
+    let p = c .before .before .before .before in
+    let a = start p .args in
+    let ok = passed (p .before .before) in
+    (p .before .points .ensures, signed-own (a .level) (p .signed .ensures), omega (arith, ok .in-grid, slots-lt (a .mode)), ok .bits-long)
 
 parts-of-requires : tie.Need-parts-of-requires Inv-loop μ-loop
 parts-of-requires c κs = search needs
@@ -80,23 +92,27 @@ loop-less c = omega arith
 
 loop-again : tie.Need-loop-again Inv-loop μ-loop
 loop-again c =
-    let e = c .before .cell-at .ensures in
-    let inv = c .before .before .before .before .loop .inv in (
+    let l = c .before .before .before .before .before in
+    let a = start (l .before) .args in
+    let e : c .before .cell-at .result ≡ symbolCell (a .mode) (a .level) (a .bits .now) (a .symbol) (l .loop .c) =
+    c .before .cell-at .ensures
+    ∙ ap (λ (x : Float). symbolCell (a .mode) x (a .bits .now) (a .symbol) (l .loop .c)) (signed-level (a .level) (l .before .signed .ensures)) in
+    let inv = l .loop .inv in (
       omega arith,
       holds-next _ _ zeroPart _ _ (omega arith) (c .parts-of .ensures .0 ∙ ap firstPart e) (inv .1),
       holds-next _ _ zeroPart _ _ (omega arith) (c .parts-of .ensures .1 ∙ ap secondPart e) (inv .2),
     )
 
 same-length : tie.Need-same-length Inv-loop μ-loop
-same-length c = c .before .loop .inv .1 .long ∙ sym (passed (c .before .before .before) .firsts-long)
+same-length c = c .before .loop .inv .1 .long ∙ sym (passed (c .before .before .before .before) .firsts-long)
 
 same-length-2 : tie.Need-same-length-2 Inv-loop μ-loop
-same-length-2 c = c .before .loop .inv .2 .long ∙ sym (passed (c .before .before .before) .seconds-long)
+same-length-2 c = c .before .loop .inv .2 .long ∙ sym (passed (c .before .before .before .before) .seconds-long)
 
 returns-2 : tie.Need-returns-2 Inv-loop μ-loop
 returns-2 c =
     let inv = c .before .loop .inv in
-    let e = c .before .before .before in
+    let e = c .before .before .before .before in
     record {
       answer = sym (not-false _ (e .if1 .left)) ∙ e .before .fitting .ensures;
       done = λ _.
@@ -113,8 +129,10 @@ write-symbol-spec =
     fitting-requires
     returns
     points-requires
+    signed-requires
     loop-holds
     slice-aggregate-cell-at
+    slice-aggregate-cell-at-2
     cell-at-requires
     parts-of-requires
     mul-firsts
