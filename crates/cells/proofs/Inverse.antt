@@ -7,31 +7,27 @@ use native.Mathlib.Omega.{arith}
 use lib.Dec.{eqb, ltb, eqb→eq, ltb→lt}
 use borrow.Author.Tests.{lt-ltb, le-ltb, le-leb, lt-leb, eq-eqb, ne-eqb}
 use Rattle.rules.specs.Bits.{pick}
-use Rattle.rules.specs.Kept.{nextKept, counter, count}
 use Rattle.rules.specs.Slots.{slots, symbols, symbolOf, slotNumber}
 use Rattle.rules.specs.Cells.{placeOf, pointAt, interlaceOf, slotOf, cellOf, pointCell}
 use Rattle.rules.specs.Cells.{Belongs, outside, place, belongs, carriedBy, carriedAt, carried}
 use Rattle.rules.specs.declared.Carried.{Carried}
 use Rattle.rules.specs.declared.Carried.the-variants.{Nothing, PointOf}
+use Rattle.rules.proofs.Tables.{places-inside, points-inside, points-of-places, places-of-points}
 use Rattle.laws.specs.Every.{every-at}
 
--- ---- places are a permutation of 0 to 499: computed, place by place
+-- ---- places are a permutation of 0 to 499, as the rules' own tests say
 
 pub place-lt : {i : ℕ} → i < 500 → placeOf i < 500
-unfolding placeOf nextKept counter
-place-lt {i} h = ltb→lt _ _ (every-at 500 (λ i. ltb (placeOf i) 500) tt i h)
+place-lt {i} h = ltb→lt _ _ (every-at 500 (λ i. ltb (placeOf i) 500) places-inside i h)
 
 pub point-lt : {i : ℕ} → i < 500 → pointAt i < 500
-unfolding pointAt count
-point-lt {i} h = ltb→lt _ _ (every-at 500 (λ i. ltb (pointAt i) 500) tt i h)
+point-lt {i} h = ltb→lt _ _ (every-at 500 (λ i. ltb (pointAt i) 500) points-inside i h)
 
 pub place-point : (i : ℕ) → i < 500 → pointAt (placeOf i) ≡ i
-unfolding placeOf pointAt nextKept counter count
-place-point i h = eqb→eq _ _ (every-at 500 (λ i. eqb (pointAt (placeOf i)) i) tt i h)
+place-point i h = eqb→eq _ _ (every-at 500 (λ i. eqb (pointAt (placeOf i)) i) points-of-places i h)
 
 pub point-place : (i : ℕ) → i < 500 → placeOf (pointAt i) ≡ i
-unfolding placeOf pointAt nextKept counter count
-point-place i h = eqb→eq _ _ (every-at 500 (λ i. eqb (placeOf (pointAt i)) i) tt i h)
+point-place i h = eqb→eq _ _ (every-at 500 (λ i. eqb (placeOf (pointAt i)) i) places-of-points i h)
 
 -- ---- in each symbol the slots 1 to 7 have an interlace each
 

@@ -13,10 +13,11 @@ ghost use Rattle.cells.specs.Spot.{belonging};
 ghost use Rattle.cells.specs.Symbol as symbolRule;
 ghost use Rattle.cells.specs.Symbol.{Signed, levelOf, symbolCell, WriteRule, slotsEnd, Decisions, readIn, ReadRule};
 
-mod order;
+mod place_table;
+mod point_table;
 
-use order::PLACES;
-use order::POINTS;
+use place_table::PLACES;
+use point_table::POINTS;
 use rules::Carried;
 use rules::Cell;
 use rules::Point;

@@ -4,14 +4,14 @@ use mathlib.Core.Bool.{Bool, true, _&&_, Bool·beq}
 use mathlib.Core.List.{List, [], _∷_}
 use Prim.Native.Nat.{ℕ, zero, suc, _+_, _-_, _*_, _/_, _%_}
 use lib.Dec.{T, eqb, leb, ltb}
-use Rattle.rules.specs.Bits.{pick, row, bitOf, asNumber, byteBit}
+use Rattle.rules.specs.Bits.{pick, everyBelow, row, bitOf, asNumber, byteBit}
 use Rattle.rules.specs.Packet.{checkStep, checkRegister, checkWord}
 use Rattle.rules.specs.Field.{_⊗_, double, times, alpha}
 use Rattle.rules.specs.Outer.{generator, value}
-use Rattle.rules.specs.Kept.{nextKept, counter}
+use Rattle.rules.specs.Kept.{nextKept, counter, count}
 use Rattle.rules.specs.Interleaver.{tableD}
 use Rattle.rules.specs.Turbo.{Rate, half, third, state, ending, codedBit, codedLength}
-use Rattle.rules.specs.Cells.{placeOf}
+use Rattle.rules.specs.Cells.{placeOf, pointAt}
 use Rattle.rules.specs.Examples.{firstOf}
 use Rattle.rules.specs.Answers.{isNumber, isReason, hasRead}
 
@@ -77,3 +77,20 @@ reasons-listed = refl
 pub places-checked : checkWord (λ i. bitOf 9 (row (firstOf 500 placeOf) (i / 9)) (i % 9)) 4500 ≡ 0x7C6D
 unfolding checkWord checkRegister checkStep placeOf nextKept counter
 places-checked = refl
+
+-- 0 to 499 in another order: places and points stay below 500, and each of the two is the other's inverse
+pub places-inside : T (everyBelow 500 (λ i. ltb (placeOf i) 500))
+unfolding placeOf nextKept counter
+places-inside = tt
+
+pub points-inside : T (everyBelow 500 (λ i. ltb (pointAt i) 500))
+unfolding pointAt count
+points-inside = tt
+
+pub points-of-places : T (everyBelow 500 (λ i. eqb (pointAt (placeOf i)) i))
+unfolding placeOf pointAt nextKept counter count
+points-of-places = tt
+
+pub places-of-points : T (everyBelow 500 (λ i. eqb (placeOf (pointAt i)) i))
+unfolding placeOf pointAt nextKept counter count
+places-of-points = tt
