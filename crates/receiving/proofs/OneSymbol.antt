@@ -15,11 +15,12 @@ use Rattle.rules.specs.Slots.{slotBits, slots, symbols, symbolOf}
 use Rattle.rules.specs.Points.{decide}
 use Rattle.rules.specs.Cells.{pointCell}
 use Rattle.rules.specs.Profile.{inRange}
-use Rattle.rules.specs.Block.{partOf, HearRule}
+use Rattle.rules.specs.Block.{partOf, symbolPart, HearRule}
 use Rattle.rules.specs.declared.Profile.{Profile}
 use Rattle.laws.specs.Holds.{Holds}
 use Rattle.laws.specs.Filled.{upTo, upTo-below, upTo-from}
 use Rattle.cells.specs.Symbol.{heardIn, decidedIn}
+use Rattle.cells.proofs.Heard.{HeardTo, decided-in}
 
 module _ (m y : ℕ) (f s : List Float) (b : List ℕ) where
   -- the first n bits are lent, and come back
@@ -40,6 +41,24 @@ module _ (m y : ℕ) (f s : List Float) (b : List ℕ) where
           let back : n + (g - n) ≡ g = omega arith in
           ap (row (l ++ drop n b)) from ∙ getD-append-add l (drop n b) (g - n) 0 ∙ getD-drop n b (g - n) 0 ∙ ap (row b) back
           ∙ sym (upTo-from (decidedIn m y f s b) (row b) (slotBits m * slots m) g (omega arith))
+
+-- lent for symbol y of a grid, they come back with one symbol more heard
+pub lent-next : (m y : ℕ) (f s : List Float) (b : List ℕ) (n : ℕ) (l : List ℕ)
+    → n ≡ slotBits m * slots m
+    → n ≤ length b
+    → Holds 0 (slotBits m * slots m) (decidedIn m y (symbolPart y f) (symbolPart y s) (take n b)) l
+    → HeardTo m y f s b
+    → (length (l ++ drop n b) ≡ length b) × HeardTo m (y + 1) f s (l ++ drop n b)
+lent-next m y f s b n l e most h so = (all .long, next)
+  where
+    part : ℕ → ℕ
+    part = decidedIn m y (symbolPart y f) (symbolPart y s) b
+
+    all : Holds 0 (length b) (upTo (slotBits m * slots m) part (row b)) (l ++ drop n b)
+    all = lent-front m y (symbolPart y f) (symbolPart y s) b n l e most h
+
+    next : HeardTo m (y + 1) f s (l ++ drop n b)
+    next g lt k = all .each g (omega arith) ∙ upTo-below part (row b) (slotBits m * slots m) g lt ∙ decided-in m f s y b so g lt k
 
 -- bit i of slot t
 decided-at : (m y t i : ℕ) (f s : List Float) (b : List ℕ) → i < slotBits m

@@ -70,18 +70,18 @@ pub fn hear(
     }
 }
 
-// Every symbol of a whole grid, one after the other.
+// Every symbol of a whole grid, one after the other, each read into its place: `with_symbol` would copy the bits twice a symbol.
 fn heard(mode: u8, firsts: &[f32], seconds: &[f32]) -> [u8; 48000]
     requires { ⌜ (length (now firsts) ≡ 4096 * symbols mode) × (length (now seconds) ≡ 4096 * symbols mode) ⌝ }
     ensures { λ r. ⌜ HeardTo mode (symbols mode) (now (firsts .entry)) (now (seconds .entry)) r ⌝ }
 {
     let n = symbol_count(mode);
+    let m = block_bits(mode);
     let mut bits = [0u8; 48000];
     for y in 0..n {
         let at = 4096 * y;
         let end = at + 4096;
-        let next = with_symbol(mode, y, &firsts[at..end], &seconds[at..end], bits);
-        bits = next;
+        cells::read_symbol(mode, y, &firsts[at..end], &seconds[at..end], &mut bits[..m]);
     }
     bits
 }

@@ -12,7 +12,7 @@ use Rattle.rules.specs.declared.Carried.the-variants.{Nothing, PointOf}
 unfoldable pub placeOf : ℕ → ℕ
 placeOf n = kept (reversed 9) 512 500 n
 
--- and the point that is at a place: as many results are kept before it
+-- and the point at a place, whose counter is the place's own nine bits reversed: as many results are kept before it
 unfoldable pub pointAt : ℕ → ℕ
 pointAt place = count (λ i. ltb (reversed 9 i) 500) (reversed 9 place)
 
