@@ -301,7 +301,7 @@ fn point_in(firsts: &[f32], seconds: &[f32], c: usize) -> Point
     }
 }
 
-// The decisions of a symbol's cells, one after the other: taken in the points' order they would cost a receive a quarter more.
+// The decisions of a symbol's cells, in their order: in the points' order a receive takes about a quarter longer (docs/requests/01.md).
 fn decisions(firsts: &[f32], seconds: &[f32]) -> [u8; 8192]
     requires { ⌜ (length (now firsts) ≡ 4096) × (length (now seconds) ≡ 4096) ⌝ }
     ensures { λ r. ⌜ Decisions (now (firsts .entry)) (now (seconds .entry)) r ⌝ }

@@ -1,16 +1,14 @@
 -- `cells::decisions` meets its contract. The loop's invariant: the decisions of the cells before c are in.
-use Prim.Native.Nat.{_-_, _*_, _≤_}
-use Prim.Native.Nat.{_+_}
-use mathlib.Core.Path.{_∙_}
+use mathlib.Core.Path.{_∙_, ap}
+use Prim.Native.Nat.{_+_, _-_, _*_, _≤_}
 use native.Mathlib.Omega.{arith}
 use borrow.Author.Needs.{needs}
+use Rattle.rules.specs.Points.{decide}
 use Rattle.laws.specs.Holds.{Holds}
 use Rattle.laws.specs.Filled.{upTo, holds-new, holds-whole}
-use Rattle.rules.specs.Points.{decide}
 use Rattle.cells.proofs.Heard.{deciding, decisions-next}
 use Rattle.cells.proofs.decisions.Statement.{statement}
 use Rattle.cells.proofs.decisions.Tie as tie
-use mathlib.Core.Path.{ap}
 
 abbrev Inv-loop : tie.InvT-loop
 Inv-loop firsts seconds out₀ c₀ out c = (c ≤ 4096) × Holds 0 8192 (upTo (2 * c) (deciding firsts seconds) (λ k. 0)) out

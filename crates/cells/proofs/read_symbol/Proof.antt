@@ -45,6 +45,7 @@ decisions-requires c κs = (passed (c .before) .firsts-long, passed (c .before) 
 slots-end-requires : tie.Need-slots-end-requires Inv-loop μ-loop
 slots-end-requires c κs = passed (c .before .before) .in-grid
 
+-- the call's start
 abbrev start : tie.After-slots-end Inv-loop μ-loop → tie.Start Inv-loop μ-loop
 start c = c .before .before .before .before .before .before .before .before
 

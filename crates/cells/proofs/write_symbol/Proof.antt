@@ -46,6 +46,7 @@ points-requires c κs = tt
 signed-requires : tie.Need-signed-requires Inv-loop μ-loop
 signed-requires c κs = tt
 
+-- the call's start
 abbrev start : tie.After-signed Inv-loop μ-loop → tie.Start Inv-loop μ-loop
 start c = c .before .before .before .before .before .before .before
 
@@ -56,11 +57,11 @@ loop-holds c = (
   holds-first _ _ zeroPart (record { long = passed (c .before .before) .seconds-long; each = λ k l. refl }),
 )
 
-slice-aggregate-cell-at-2 : tie.Need-slice-aggregate-cell-at-2 Inv-loop μ-loop
-slice-aggregate-cell-at-2 c = search needs
-
 slice-aggregate-cell-at : tie.Need-slice-aggregate-cell-at Inv-loop μ-loop
 slice-aggregate-cell-at c = search needs
+
+slice-aggregate-cell-at-2 : tie.Need-slice-aggregate-cell-at-2 Inv-loop μ-loop
+slice-aggregate-cell-at-2 c = search needs
 
 cell-at-requires : tie.Need-cell-at-requires Inv-loop μ-loop
 cell-at-requires c κs =
