@@ -34,7 +34,7 @@ extern "C" {
 #define FLO_SEEDS 48                              /* places for seeds in a profile as a value; mode 1 uses 32, and the others are zero */
 #define FLO_MOST_PROFILE 245                      /* bytes of the longest profile; the other length is 181, in mode 1 */
 
-/* A thread with a stack of this many bytes can make every call. As measured, a call takes at most 120,000 of them (docs/MEASURED.md). */
+/* A thread with a stack of this many bytes can make every call. As measured on x86-64, a call takes at most 120,000 of them (docs/MEASURED.md). */
 #define FLO_STACK 262144
 
 /* Every call answers one of these numbers: the first of 1 to 5 that reading the profile finds, then the first of the call's own, in rising order.

@@ -390,12 +390,11 @@ def profiles_stdin():
         sys.stdout.buffer.write(struct.pack(">H", len(data)) + data)
     return ()
 
-# ---- the order of points by itself: its check words, to be held against a table's, and its first and last places
+# ---- the order of points by itself: its check word, as rules/proofs/Tables.antt has it, and its first and last places
 
 def place_lines():
     order = places()
-    for width in 9, 16:
-        yield "places", width, word(order, width), *order[:8], *order[-3:]
+    yield "places", word(order, 9), *order[:8], *order[-3:]
 
 NAMES = {"vectors": vectors, "profiles": profiles, "profiles-stdin": profiles_stdin, "places": place_lines}
 

@@ -4,7 +4,7 @@ use mathlib.Core.List.{List}
 use Prim.Native.Nat.{ℕ, _<_}
 use native.Mathlib.Omega.{arith}
 use lib.Ieee.{Float, nan, neg}
-use lib.ListN.{length, getD, set, replicate, length-replicate, getD-replicate}
+use lib.ListN.{getD, set, replicate, length-replicate, getD-replicate}
 use Rattle.rules.specs.Points.{part, zeroPart}
 use Rattle.laws.specs.Holds.{holds-put}
 use Rattle.laws.specs.Lists.{any-default}

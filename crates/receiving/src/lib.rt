@@ -70,7 +70,8 @@ pub fn hear(
     }
 }
 
-// Every symbol of a whole grid, one after the other, each read into its place: `with_symbol` would copy the bits twice a symbol.
+// Every symbol of a whole grid, one after the other, read into one list of bits: `with_symbol` would copy them twice a symbol. Each is one of the grid, so none is
+// refused.
 fn heard(mode: u8, firsts: &[f32], seconds: &[f32]) -> [u8; 48000]
     requires { ⌜ (length (now firsts) ≡ 4096 * symbols mode) × (length (now seconds) ≡ 4096 * symbols mode) ⌝ }
     ensures { λ r. ⌜ HeardTo mode (symbols mode) (now (firsts .entry)) (now (seconds .entry)) r ⌝ }

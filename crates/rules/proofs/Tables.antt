@@ -2,7 +2,7 @@
 use mathlib.Core.Path.{_≡_, refl}
 use mathlib.Core.Bool.{Bool, true, _&&_, Bool·beq}
 use mathlib.Core.List.{List, [], _∷_}
-use Prim.Native.Nat.{ℕ, zero, suc, _+_, _-_, _*_, _/_, _%_}
+use Prim.Native.Nat.{ℕ, zero, suc, _+_, _-_, _/_, _%_}
 use lib.Dec.{T, eqb, leb, ltb}
 use Rattle.rules.specs.Bits.{pick, everyBelow, row, bitOf, asNumber, byteBit}
 use Rattle.rules.specs.Packet.{checkStep, checkRegister, checkWord}

@@ -8,7 +8,7 @@ use Rattle.rules.specs.Slots.{slots, symbolOf, slotNumber}
 use Rattle.rules.specs.declared.Carried.{Carried}
 use Rattle.rules.specs.declared.Carried.the-variants.{Nothing, PointOf}
 
--- Run i from 0 to 511, reverse its nine bits, drop results of 500 and above; the n-th kept result is the place of point n of its interlace
+-- Run i from 0 to 511, reverse its nine bits, drop results of 500 and above; the n-th kept result is the place, in its interlace, of point n
 unfoldable pub placeOf : ℕ → ℕ
 placeOf n = kept (reversed 9) 512 500 n
 

@@ -1,5 +1,5 @@
--- What the turbo interleaver and the order of a slot's points (Cells.antt) share: a counter's bits are reversed, and of the results in the
--- counter's order those below a length are kept.
+-- What document 01's turbo interleaver (Interleaver.antt) and Req 01's order of a slot's points (Cells.antt) share: a counter's bits are reversed,
+-- and of the results in the counter's order those below a length are kept.
 use mathlib.Core.Bool.{Bool, true, false}
 use Prim.Native.Nat.{ℕ, zero, suc, _+_, _/_, _%_, _^_}
 use lib.Dec.{ltb}
@@ -14,7 +14,7 @@ unfoldable pub nextKept : (ℕ → ℕ) → ℕ → ℕ → ℕ → ℕ
 nextKept f len zero m = m
 nextKept f len (suc turns) m = elim (ltb (f m) len) [ true ↦ m | false ↦ nextKept f len turns (suc m) ]
 
--- the counter of the i-th result that is kept, from 0; counters stay below N
+-- the counter of the i-th result that is kept, from 0, each looked for among the next N counters
 unfoldable pub counter : (ℕ → ℕ) → ℕ → ℕ → ℕ → ℕ
 counter f N len zero = nextKept f len N 0
 counter f N len (suc i) = nextKept f len N (suc (counter f N len i))

@@ -1,6 +1,6 @@
 -- `cells::decisions` meets its contract. The loop's invariant: the decisions of the cells before c are in.
 use mathlib.Core.Path.{_∙_, ap}
-use Prim.Native.Nat.{_+_, _-_, _*_, _≤_}
+use Prim.Native.Nat.{_-_, _*_, _≤_}
 use native.Mathlib.Omega.{arith}
 use borrow.Author.Needs.{needs}
 use Rattle.rules.specs.Points.{decide}
