@@ -18,7 +18,7 @@ use Rattle.rules.specs.Block.{heard, partOf, symbolPart}
 use Rattle.laws.specs.Holds.{Holds, put, holds-as, holds-put}
 use Rattle.laws.specs.Filled.{upTo, holds-next}
 use Rattle.cells.proofs.Inverse.{point-cell-lt}
-use Rattle.cells.specs.Symbol.{heardIn, Decisions, chosen, readIn, decidedIn, slotsEnd}
+use Rattle.cells.specs.Symbol.{heardIn, deciding, Decisions, chosen, readIn, decidedIn, slotsEnd}
 
 module _ (m : ℕ) (ds : List ℕ) where
   -- ---- what is read, and what is kept
@@ -145,24 +145,20 @@ slots-lt m = go (eqb m 0)
 -- ---- the decisions of a symbol's cells
 
 module _ (f s : List Float) where
-  -- decision n, of the first part of a cell where n is even, else of the second
-  abbrev pub deciding : ℕ → ℕ
-  deciding n = decide (partOf n f s (n / 2))
-
-  deciding-first : (c : ℕ) → deciding (2 * c) ≡ decide (getD f c zeroPart)
+  deciding-first : (c : ℕ) → deciding f s (2 * c) ≡ decide (getD f c zeroPart)
   deciding-first c = let half : 2 * c / 2 ≡ c = omega arith in rw half (simp (eq-eqb (2 * c % 2) 0 (omega arith)))
 
-  deciding-second : (c : ℕ) → deciding (2 * c + 1) ≡ decide (getD s c zeroPart)
+  deciding-second : (c : ℕ) → deciding f s (2 * c + 1) ≡ decide (getD s c zeroPart)
   deciding-second c = let half : (2 * c + 1) / 2 ≡ c = omega arith in rw half (simp (ne-eqb ((2 * c + 1) % 2) 0 (omega arith)))
 
   -- one cell more
   pub decisions-next : (c v w : ℕ) (l : List ℕ) → c < 4096 → v ≡ decide (getD f c zeroPart) → w ≡ decide (getD s c zeroPart)
-      → Holds 0 8192 (upTo (2 * c) deciding (λ k. 0)) l
-      → Holds 0 8192 (upTo (2 * (c + 1)) deciding (λ k. 0)) (set (set l (2 * c) v) (2 * c + 1) w)
+      → Holds 0 8192 (upTo (2 * c) (deciding f s) (λ k. 0)) l
+      → Holds 0 8192 (upTo (2 * (c + 1)) (deciding f s) (λ k. 0)) (set (set l (2 * c) v) (2 * c + 1) w)
   decisions-next c v w l h p q r =
-      subst (λ (n : ℕ). Holds 0 8192 (upTo n deciding (λ k. 0)) (set (set l (2 * c) v) (2 * c + 1) w)) next
-      (holds-next deciding (λ k. 0) 0 (2 * c + 1) w (omega arith) (q ∙ sym (deciding-second c))
-      (holds-next deciding (λ k. 0) 0 (2 * c) v (omega arith) (p ∙ sym (deciding-first c)) r))
+      subst (λ (n : ℕ). Holds 0 8192 (upTo n (deciding f s) (λ k. 0)) (set (set l (2 * c) v) (2 * c + 1) w)) next
+      (holds-next (deciding f s) (λ k. 0) 0 (2 * c + 1) w (omega arith) (q ∙ sym (deciding-second c))
+      (holds-next (deciding f s) (λ k. 0) 0 (2 * c) v (omega arith) (p ∙ sym (deciding-first c)) r))
     where
       next : 2 * c + 1 + 1 ≡ 2 * (c + 1)
       next = omega arith
@@ -183,7 +179,7 @@ chosen-heard m f s ds h g = h .each (2 * c + i % 2) (omega (arith, point-cell-lt
     half : (2 * c + i % 2) / 2 ≡ c
     half = omega arith
 
-    by : Dec (i % 2 ≡ 0) → decide (partOf (2 * c + i % 2) f s ((2 * c + i % 2) / 2)) ≡ decide (partOf i f s c)
+    by : Dec (i % 2 ≡ 0) → deciding f s (2 * c + i % 2) ≡ decide (partOf i f s c)
     by (yes e) = rw half (simp (eq-eqb ((2 * c + i % 2) % 2) 0 (omega arith), eq-eqb (i % 2) 0 e))
     by (no e) = rw half (simp (ne-eqb ((2 * c + i % 2) % 2) 0 (omega arith), ne-eqb (i % 2) 0 e))
 

@@ -1,6 +1,7 @@
 -- What a cell carries is the inverse of where a point goes: `carried-cell` and `cell-carried`. So two points never share a cell.
 -- Of the places and interlaces only the eight facts at the head are used.
 use mathlib.Core.Path.{_≡_, refl, sym, _∙_, ap, ap₂, subst}
+use mathlib.Core.List.{List}
 use Prim.Native.Nat.{ℕ, _+_, _-_, _*_, _/_, _%_, _<_, _≤_}
 use native.Mathlib.Decide.{ℕ-discrete, decLt}
 use native.Mathlib.Omega.{arith}
@@ -13,7 +14,9 @@ use Rattle.rules.specs.Cells.{Belongs, outside, place, belongs, carriedBy, carr
 use Rattle.rules.specs.declared.Carried.{Carried}
 use Rattle.rules.specs.declared.Carried.the-variants.{Nothing, PointOf}
 use Rattle.rules.proofs.Tables.{places-inside, points-inside, points-of-places, places-of-points}
+use lib.ListN.{getD}
 use Rattle.laws.specs.Every.{every-at}
+use Rattle.laws.specs.Holds.{Holds}
 
 -- ---- places are a permutation of 0 to 499, as the rules' own tests say
 
@@ -28,6 +31,10 @@ place-point i h = eqb→eq _ _ (every-at 500 (λ i. eqb (pointAt (placeOf i)) i)
 
 pub point-place : (i : ℕ) → i < 500 → placeOf (pointAt i) ≡ i
 point-place i h = eqb→eq _ _ (every-at 500 (λ i. eqb (placeOf (pointAt i)) i) places-of-points i h)
+
+-- what is looked up in a table of such an order
+pub looked : (f : ℕ → ℕ) (l : List ℕ) (i : ℕ) → Holds 0 500 f l → i < 500 → f i < 500 → (getD l i 0 ≡ f i) × (getD l i 0 < 500)
+looked f l i t h inside = (t .each i h, rw (t .each i h) inside)
 
 -- ---- in each symbol the slots 1 to 7 have an interlace each
 

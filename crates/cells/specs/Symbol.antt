@@ -54,8 +54,11 @@ heardIn m firsts seconds g =
     decide (partOf (g % slotBits m) firsts seconds (pointCell (g / slotBits m) (g % slotBits m / 2)))
 
 -- the decisions of all cells of a symbol in one list: those of cell c are at 2c and 2c + 1
+abbrev pub deciding : List Float → List Float → ℕ → ℕ
+deciding firsts seconds n = decide (partOf n firsts seconds (n / 2))
+
 abbrev pub Decisions : List Float → List Float → List ℕ → Type 0
-Decisions firsts seconds l = Holds 0 8192 (λ n. decide (partOf n firsts seconds (n / 2))) l
+Decisions firsts seconds l = Holds 0 8192 (deciding firsts seconds) l
 
 -- bit g of the block among such decisions
 abbrev pub chosen : ℕ → List ℕ → ℕ → ℕ

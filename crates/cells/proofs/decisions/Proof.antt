@@ -6,7 +6,8 @@ use borrow.Author.Needs.{needs}
 use Rattle.rules.specs.Points.{decide}
 use Rattle.laws.specs.Holds.{Holds}
 use Rattle.laws.specs.Filled.{upTo, holds-new, holds-whole}
-use Rattle.cells.proofs.Heard.{deciding, decisions-next}
+use Rattle.cells.specs.Symbol.{deciding}
+use Rattle.cells.proofs.Heard.{decisions-next}
 use Rattle.cells.proofs.decisions.Statement.{statement}
 use Rattle.cells.proofs.decisions.Tie as tie
 

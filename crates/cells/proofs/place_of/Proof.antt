@@ -1,18 +1,17 @@
 -- `cells::place_of` meets its contract: what is looked up is what the table holds.
 use mathlib.Core.Path.{_≡_}
-use mathlib.Core.List.{List}
-use Prim.Native.Nat.{ℕ, _<_}
+use Prim.Native.Nat.{_<_}
 use native.Mathlib.Omega.{arith}
 use lib.ListN.{getD}
 use Rattle.rules.specs.Cells.{placeOf}
-use Rattle.laws.specs.Holds.{Holds}
-use Rattle.cells.proofs.Inverse.{place-lt}
+use Rattle.cells.proofs.Inverse.{place-lt, looked}
 use borrow.Author.Needs.{needs}
 use Rattle.cells.proofs.place_of.Statement.{statement}
 use Rattle.cells.proofs.place_of.Tie as tie
 
-looked : {l : List ℕ} {i : ℕ} → Holds 0 500 placeOf l → i < 500 → (getD l i 0 ≡ placeOf i) × (getD l i 0 < 500)
-looked {l} {i} t h = (t .each i h, rw (t .each i h) (place-lt h))
+right : (c : tie.Start) → (let a = c .args in
+    (getD (a .places .now) (a .point) 0 ≡ placeOf (a .point)) × (getD (a .places .now) (a .point) 0 < 500))
+right c = looked placeOf (c .args .places .now) (c .args .point) (c .pre .0) (c .pre .1) (place-lt (c .pre .1))
 
 mul-result : tie.Need-mul-result
 mul-result c = search needs
@@ -21,10 +20,10 @@ shared-slice-read-result : tie.Need-shared-slice-read-result
 shared-slice-read-result c = search needs
 
 cast-result : tie.Need-cast-result
-cast-result c = omega (arith, looked (c .before .pre .0) (c .before .pre .1) .1)
+cast-result c = omega (arith, right (c .before) .1)
 
 returns : tie.Need-returns
-returns c = looked (c .before .pre .0) (c .before .pre .1)
+returns c = right (c .before)
 
 pub place-of-spec : {M : Type 1} → statement M
 place-of-spec = tie.close (tie.spec mul-result shared-slice-read-result cast-result returns)
