@@ -2,8 +2,9 @@
 use mathlib.Core.Path.{_≡_, refl}
 use mathlib.Core.Bool.{Bool, true, _&&_, Bool·beq}
 use mathlib.Core.List.{List, [], _∷_}
-use Prim.Native.Nat.{ℕ, zero, suc, _+_, _-_, _/_, _%_}
+use Prim.Native.Nat.{ℕ, zero, suc, _+_, _-_, _*_, _/_, _%_}
 use lib.Dec.{T, eqb, leb, ltb}
+use lib.Ieee.{Float, binary32, ofBits, lt}
 use Rattle.rules.specs.Bits.{pick, everyBelow, row, bitOf, asNumber, byteBit}
 use Rattle.rules.specs.Packet.{checkStep, checkRegister, checkWord}
 use Rattle.rules.specs.Field.{_⊗_, double, times, alpha}
@@ -14,6 +15,13 @@ use Rattle.rules.specs.Turbo.{Rate, half, third, state, ending, codedBit
 use Rattle.rules.specs.Cells.{placeOf, pointAt}
 use Rattle.rules.specs.Examples.{firstOf}
 use Rattle.rules.specs.Answers.{isNumber, isReason, hasRead}
+use Rattle.rules.specs.Slots.{symbols}
+use Rattle.rules.specs.Points.{decide}
+use Rattle.rules.specs.Pieces.{stateBytes, cellByte, isCellByte}
+
+-- the f32 of some bits
+abbrev f32 : ℕ → Float
+f32 = ofBits binary32
 
 -- the generator with its first coefficient, that of x^r
 unfoldable pub monic : ℕ → ℕ → ℕ
@@ -64,7 +72,7 @@ passing zero k f = []
 passing (suc n) k f = let rest = passing n (suc k) f in pick (f k) (k ∷ rest) rest
 
 -- The table of what the desk says back has these numbers and no other below a byte's 256, receiving reads the cells at these, and gives these reasons
-pub numbers-listed : passing 256 0 isNumber ≡ 0 ∷ 1 ∷ 2 ∷ 3 ∷ 4 ∷ 5 ∷ 6 ∷ 7 ∷ 8 ∷ 9 ∷ 10 ∷ []
+pub numbers-listed : passing 256 0 isNumber ≡ 0 ∷ 1 ∷ 2 ∷ 3 ∷ 4 ∷ 5 ∷ 6 ∷ 7 ∷ 8 ∷ 9 ∷ 10 ∷ 16 ∷ 17 ∷ 22 ∷ []
 numbers-listed = refl
 
 pub read-listed : passing 256 0 hasRead ≡ 0 ∷ 9 ∷ 10 ∷ []
@@ -72,6 +80,19 @@ read-listed = refl
 
 pub reasons-listed : passing 256 0 isReason ≡ 0 ∷ 11 ∷ 12 ∷ 13 ∷ 14 ∷ 15 ∷ []
 reasons-listed = refl
+
+-- The state has room for the largest grid. A cell's byte is one of these; here 1.0 is bit 0, -1.0 bit 1 and 0.0 doubtful
+pub state-room : stateBytes ≡ 2 + 4096 * symbols 0
+state-room = refl
+
+pub bytes-listed : passing 256 0 isCellByte ≡ 0 ∷ 1 ∷ 2 ∷ 3 ∷ 4 ∷ 5 ∷ 6 ∷ 7 ∷ 8 ∷ []
+bytes-listed = refl
+
+pub bytes-made : cellByte (f32 0xBF80_0000) (f32 0x3F80_0000) ∷ cellByte (f32 0x3F80_0000) (f32 0xBF80_0000) ∷ cellByte (f32 0) (f32 0xBF80_0000)
+    ∷ cellByte (f32 0x3F80_0000) (f32 0) ∷ cellByte (f32 0) (f32 0) ∷ []
+    ≡ 1 ∷ 3 ∷ 5 ∷ 6 ∷ 8 ∷ []
+unfolding decide ofBits lt
+bytes-made = refl
 
 -- The order of points, as 500 numbers of nine bits, has the check word that a program outside worked out from the sentence of Req 01
 pub places-checked : checkWord (λ i. bitOf 9 (row (firstOf 500 placeOf) (i / 9)) (i % 9)) 4500 ≡ 0x7C6D

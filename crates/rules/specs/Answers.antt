@@ -1,4 +1,4 @@
--- Document 01, "What the desk says back": the numbers, and what each case of an answer that is an enum stands for.
+-- Document 01, "What the desk says back": the numbers, with those that document 02 adds, and what each case of an answer that is an enum stands for.
 use mathlib.Core.Bool.{Bool, _||_, _&&_}
 use Prim.Native.Nat.{ℕ}
 use lib.Dec.{eqb, leb}
@@ -7,9 +7,9 @@ use Rattle.rules.specs.declared.Outcome.the-variants.{Done, BadK, BadLen
 use Rattle.rules.specs.declared.Coding.{Coding}
 use Rattle.rules.specs.declared.Coding.the-variants.{Coded, WrongMode, WrongLength}
 
--- 0 done, 1 to 10 the refusals
+-- 0 done, 1 to 10 the refusals; and those of document 02: 16 too many cells, 17 the last cell not yet seen, 22 no such state
 abbrev pub isNumber : ℕ → Bool
-isNumber n = leb n 10
+isNumber n = leb n 10 || eqb n 16 || eqb n 17 || eqb n 22
 
 -- the numbers at which receiving has read the cells: mask and reasons are given, and something may count as accepted
 abbrev pub hasRead : ℕ → Bool

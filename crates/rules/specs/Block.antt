@@ -6,13 +6,13 @@ use Prim.Native.Nat.{ℕ, zero, suc, _+_, _-_, _*_, _/_, _%_, _^_, _<_, _≤_}
 use lib.Count.{ones}
 use lib.Dec.{T, eqb, ltb}
 use lib.Ieee.{Float}
-use lib.ListN.{length, getD, replicate, take, drop}
+use lib.ListN.{length, getD, replicate}
 use Rattle.rules.specs.Bits.{pick, row, bitOf, everyBelow}
 use Rattle.rules.specs.Packet.{checkWord}
 use Rattle.rules.specs.Outer.{encoded, Codeword, Agree, marked}
 use Rattle.rules.specs.Interleaver.{bitDeinterleaved}
 use Rattle.rules.specs.Turbo.{dataPlace}
-use Rattle.rules.specs.Slots.{rate, slotBits, packetBits, slots, symbols, coded, blockBit, symbolOf, slotNumber, scrambling}
+use Rattle.rules.specs.Slots.{rate, slotBits, packetBits, symbols, coded, blockBit, symbolOf, slotNumber, scrambling}
 use Rattle.rules.specs.Points.{zeroPart, pointOf, firstPart, secondPart, doubtful, decide}
 use Rattle.rules.specs.Cells.{carried, pointCell}
 use Rattle.rules.specs.Profile.{inRange}
@@ -87,11 +87,17 @@ heard firsts seconds t i = decide (partOf i firsts seconds (4096 * symbolOf t + 
 abbrev pub unscrambled : ℕ → ℕ → ℕ
 unscrambled b s = pick (eqb b doubtful) doubtful ((b + s) % 2)
 
+-- bit g of the block, where v says its bits still scrambled
+abbrev pub understood : Profile → (ℕ → ℕ) → ℕ → ℕ
+understood P v g = unscrambled (v g) (scrambler P (g / slotBits (P .mode)) (g % slotBits (P .mode)))
+
+-- bits by slot, as the block's
+abbrev pub inBlock : ℕ → (ℕ → ℕ → ℕ) → ℕ → ℕ
+inBlock m bits g = bits (g / slotBits m) (g % slotBits m)
+
 -- bit g of the block
 unfoldable pub decided : Profile → List Float → List Float → ℕ → ℕ
-decided P firsts seconds g =
-    unscrambled (heard firsts seconds (g / slotBits (P .mode)) (g % slotBits (P .mode)))
-    (scrambler P (g / slotBits (P .mode)) (g % slotBits (P .mode)))
+decided P firsts seconds = understood P (inBlock (P .mode) (heard firsts seconds))
 
 -- packet p's part of the block's decided bits
 abbrev pub packetPart : ℕ → (ℕ → ℕ) → ℕ → ℕ → ℕ
@@ -178,47 +184,3 @@ Accepted a p = T (hasRead (a .number)) × (row (a .reasons) p ≡ 0)
 abbrev pub ReceiveRule : Profile → ℕ → List Float → List Float → List ℕ → List ℕ → Receipt → Type 0
 ReceiveRule P marks firsts seconds before after a =
     Answered P marks (early P (length before) (length firsts) (length seconds) (4096 * symbols (P .mode))) (decided P firsts seconds) before after a
-
--- ---- the same symbol by symbol: bits are lent as 48000 numbers, those past the block's unused
-
--- symbol y's own part of a list of cells
-abbrev pub symbolPart : ℕ → List Float → List Float
-symbolPart y l = take 4096 (drop (4096 * y) l)
-
--- one symbol's cells are heard into the block's bits: 4, 7, 8
-pub record HearRule (P : Profile) (symbol : ℕ) (firsts seconds : List Float) (before after : List ℕ) (number : ℕ) : Type 0 where
-  pub answer : number
-      ≡ pick (not (inRange P)) 4
-      (pick (not (eqb (length firsts) 4096 && eqb (length seconds) 4096)) 7 (pick (ltb symbol (symbols (P .mode))) 0 8))
-  pub long : length after ≡ length before
-  pub own : number ≡ 0
-      → (t i : ℕ)
-      → t < slots (P .mode)
-      → i < slotBits (P .mode)
-      → symbolOf t ≡ symbol
-      → row after (slotBits (P .mode) * t + i) ≡ decide (partOf i firsts seconds (pointCell t (i / 2)))
-  pub others : number ≡ 0
-      → (t i : ℕ)
-      → t < slots (P .mode)
-      → i < slotBits (P .mode)
-      → ¬ (symbolOf t ≡ symbol)
-      → row after (slotBits (P .mode) * t + i) ≡ row before (slotBits (P .mode) * t + i)
-  pub past : number ≡ 0 → (g : ℕ) → slotBits (P .mode) * slots (P .mode) ≤ g → row after g ≡ row before g
-  pub kept : ¬ (number ≡ 0) → after ≡ before
-
--- the symbols of a grid before the given one, heard one after the other into any bits
-pub data InTurn (P : Profile) (f s : List Float) : ℕ → List ℕ → Type 0 where
-  none : (bits : List ℕ) → InTurn P f s 0 bits
-  next : (y : ℕ) (before after : List ℕ)
-      → InTurn P f s y before
-      → HearRule P y (symbolPart y f) (symbolPart y s) before after 0
-      → InTurn P f s (y + 1) after
-
--- bit g of the block from what was heard
-abbrev pub understood : Profile → List ℕ → ℕ → ℕ
-understood P bits g =
-    unscrambled (row bits g) (scrambler P (g / slotBits (P .mode)) (g % slotBits (P .mode)))
-
--- once all symbols have been heard: 4, 6, then the judgement; there are no lists of cells
-abbrev pub ConcludeRule : Profile → ℕ → List ℕ → List ℕ → List ℕ → Receipt → Type 0
-ConcludeRule P marks bits before after a = Answered P marks (early P (length before) 0 0 0) (understood P bits) before after a

@@ -16,7 +16,8 @@ use Rattle.rules.specs.Points.{zeroPart, doubtful}
 use Rattle.rules.specs.Profile.{inRange, Shape, reading, writing, blank, largest}
 use Rattle.rules.specs.Answers.{isNumber, isReason, hasRead}
 use Rattle.rules.specs.Block.{scrambler, sentBit, heard, Cells, SendRule, SendSymbolRule}
-use Rattle.rules.specs.Block.{Accepted, ReceiveRule, HearRule, ConcludeRule, InTurn}
+use Rattle.rules.specs.Block.{Accepted, ReceiveRule}
+use Rattle.rules.specs.Pieces.{FeedRule, AskRule, Fed}
 use Rattle.rules.specs.declared.Profile.{Profile}
 use Rattle.rules.specs.declared.Receipt.{Receipt}
 
@@ -32,11 +33,11 @@ pub record D1 : Type 0 where
   pub receive : (P : Profile) (marks : ℕ) (f s : List Float) (before after : List ℕ) (a : Receipt)
       → ReceiveRule P marks f s before after a
       → T (isNumber (a .number)) × ((p : ℕ) → p < 16 → T (isReason (row (a .reasons) p))) × (¬ (a .number ≡ 0) → after ≡ before)
-  pub hear : (P : Profile) (symbol : ℕ) (f s : List Float) (before after : List ℕ) (n : ℕ)
-      → HearRule P symbol f s before after n
+  pub feed : (P : Profile) (f s : List Float) (before after : List ℕ) (n : ℕ)
+      → FeedRule P f s before after n
       → T (isNumber n) × (¬ (n ≡ 0) → after ≡ before)
-  pub conclude : (P : Profile) (marks : ℕ) (bits before after : List ℕ) (a : Receipt)
-      → ConcludeRule P marks bits before after a
+  pub ask : (P : Profile) (marks : ℕ) (state before after : List ℕ) (a : Receipt)
+      → AskRule P marks state before after a
       → T (isNumber (a .number)) × ((p : ℕ) → p < 16 → T (isReason (row (a .reasons) p))) × (¬ (a .number ≡ 0) → after ≡ before)
   pub read : (s : List ℕ) → T (isNumber (reading s .number)) × (¬ (reading s .number ≡ 0) → reading s .profile ≡ blank)
   pub write : (P : Profile)
@@ -61,6 +62,10 @@ abbrev pub SomePacket : Profile → List Float → List Float → ℕ → Type 0
 SomePacket P f s p =
     (e : ℕ → ℕ) × ((j : ℕ) → j < 122 → e j < 256)
     × ((i : ℕ) → i < packetBits (P .mode) → heardInPlace P f s p i ≡ bitInPlace P e p i)
+
+-- some pieces, fed with this profile from the new state on, leave the state
+abbrev pub LeftBy : Profile → List ℕ → Type 0
+LeftBy P state = (f : List Float) × (s : List Float) × Fed (FeedRule P) f s state
 
 pub record D2 : Type 0 where
   -- sending a block fills the grid with exactly the cells that the rules give, and does so wherever profile and lengths are right
@@ -119,20 +124,52 @@ pub record D2 : Type 0 where
       → ReceiveRule P marks f s before after a
       → ReceiveRule P marks f s before after' a'
       → (a ≡ a') × (after ≡ after')
-  -- to hear every symbol of a grid in turn and then to conclude is to receive the grid
-  pub by-symbol : (P : Profile) (marks : ℕ) (f s : List Float) (bits before after : List ℕ) (a : Receipt)
+  -- 22 exactly where no pieces, fed with this profile from the new state on, leave the state
+  pub feed-22 : (P : Profile) (f s : List Float) (before after : List ℕ) (n : ℕ)
+      → ((i : ℕ) → row before i < 256)
+      → FeedRule P f s before after n
+      → (n ≡ 22) ↔ (T (inRange P) × ¬ LeftBy P before)
+  pub ask-22 : (P : Profile) (marks : ℕ) (state before after : List ℕ) (a : Receipt)
+      → ((i : ℕ) → row state i < 256)
+      → AskRule P marks state before after a
+      → (a .number ≡ 22) ↔ (T (inRange P) × ¬ LeftBy P state)
+  -- after pieces that were fed, every piece is taken that has lists of one length and ends within the grid, and no other
+  pub takes : (P : Profile) (f s f' s' : List Float) (before after : List ℕ) (n : ℕ)
+      → T (inRange P)
+      → Fed (FeedRule P) f s before
+      → FeedRule P f' s' before after n
+      → (n ≡ 0) ↔ ((length f' ≡ length s') × (length f + length f' ≤ 4096 * symbols (P .mode)))
+  -- however a grid was cut into pieces, to ask at the end is to receive it whole
+  pub any-cutting : (P : Profile) (marks : ℕ) (f s : List Float) (state before after : List ℕ) (a : Receipt)
+      → Fed (FeedRule P) f s state
       → length f ≡ 4096 * symbols (P .mode)
-      → length s ≡ 4096 * symbols (P .mode)
-      → InTurn P f s (symbols (P .mode)) bits
-      → ConcludeRule P marks bits before after a
+      → AskRule P marks state before after a
       → ReceiveRule P marks f s before after a
-  pub one-hearing : (P : Profile) (symbol : ℕ) (f s : List Float) (before after after' : List ℕ) (n m : ℕ)
-      → HearRule P symbol f s before after n
-      → HearRule P symbol f s before after' m
+  -- asking, where every piece was fed with the profile asked with: it reads the cells exactly where all have come and the room is right, and then
+  -- accepts an unmarked packet exactly when there is such a packet
+  pub ask-reads : (P : Profile) (marks : ℕ) (f s : List Float) (state before after : List ℕ) (a : Receipt)
+      → Fed (FeedRule P) f s state
+      → AskRule P marks state before after a
+      → T (hasRead (a .number)) ↔ (T (inRange P) × (length before ≡ 122 * P .k) × (length f ≡ 4096 * symbols (P .mode)))
+  pub ask-accepts : (P : Profile) (marks : ℕ) (f s : List Float) (state before after : List ℕ) (a : Receipt)
+      → Fed (FeedRule P) f s state
+      → AskRule P marks state before after a
+      → T (hasRead (a .number))
+      → (p : ℕ)
+      → p < 16
+      → marked marks p ≡ 0
+      → Accepted a p ↔ SomePacket P f s p
+  pub ask-nothing : (P : Profile) (marks : ℕ) (state before after : List ℕ) (a : Receipt)
+      → AskRule P marks state before after a
+      → ¬ T (hasRead (a .number))
+      → (a .lost ≡ 0) × (a .reasons ≡ replicate 16 0) × ((p : ℕ) → ¬ Accepted a p)
+  pub one-feeding : (P : Profile) (f s : List Float) (before after after' : List ℕ) (n m : ℕ)
+      → FeedRule P f s before after n
+      → FeedRule P f s before after' m
       → (n ≡ m) × (after ≡ after')
-  pub one-conclusion : (P : Profile) (marks : ℕ) (bits before after after' : List ℕ) (a a' : Receipt)
-      → ConcludeRule P marks bits before after a
-      → ConcludeRule P marks bits before after' a'
+  pub one-asking : (P : Profile) (marks : ℕ) (state before after after' : List ℕ) (a a' : Receipt)
+      → AskRule P marks state before after a
+      → AskRule P marks state before after' a'
       → (a ≡ a') × (after ≡ after')
   -- a profile is read and written by the same rules: what is in range is written, reading the written bytes gives the value back, and what reads well
   -- is what is written
@@ -170,6 +207,20 @@ pub data Members (S : ℕ → Type 0) : ℕ → ℕ → Type 0 where
   member : (n c : ℕ) → S n → Members S n c → Members S (suc n) (suc c)
   other : (n c : ℕ) → ¬ S n → Members S n c → Members S (suc n) c
 
+-- packet p is marked, or has doubtful parts, or at most three bits decided wrongly
+abbrev pub Fair : Profile → ℕ → List ℕ → List Float → List Float → ℕ → Type 0
+Fair P marks d f s p =
+    (marked marks p ≡ 1) ⊎ (Doubtful P f s p ⊎ (differ (packetBits (P .mode)) (heardInPlace P f s p) (sentInPlace P d p) ≤ 3))
+
+-- What an answer says of a block that was sent. The lost mask names the lost set, and its ones are as many as that has members; at most r of them,
+-- and every data packet comes back; more, and it is 9, and no data is written.
+abbrev pub BringsBack : Profile → ℕ → List ℕ → List Float → List Float → List ℕ → List ℕ → ℕ → ℕ → Type 0
+BringsBack P marks d f s before after lost number =
+    ((p : ℕ) → p < 16 → (marked lost p ≡ 1) ↔ Lost P marks d f s p)
+    × Members (Lost P marks d f s) 16 (ones lost)
+    × ((c : ℕ) → Members (Lost P marks d f s) 16 c → c ≤ 16 - P .k → (number ≡ 0) × (after ≡ d))
+    × ((c : ℕ) → Members (Lost P marks d f s) 16 c → 16 - P .k < c → (number ≡ 9) × (after ≡ before))
+
 pub record D3 : Type 0 where
   -- a grid that holds the sent cells is heard as sent
   pub heard-as-sent : (P : Profile) (d : List ℕ) (f s : List Float)
@@ -186,15 +237,15 @@ pub record D3 : Type 0 where
       → length before ≡ 122 * P .k
       → length f ≡ 4096 * symbols (P .mode)
       → length s ≡ 4096 * symbols (P .mode)
-      -- each packet is marked, or has doubtful parts, or at most three bits decided wrongly
-      → ((p : ℕ)
-      → p < 16
-      → (marked marks p ≡ 1)
-      ⊎ (Doubtful P f s p ⊎ (differ (packetBits (P .mode)) (heardInPlace P f s p) (sentInPlace P d p) ≤ 3)))
+      → ((p : ℕ) → p < 16 → Fair P marks d f s p)
       → ReceiveRule P marks f s before after a
-      -- the lost mask names the lost set, and its ones are as many as that has members
-      → ((p : ℕ) → p < 16 → (marked (a .lost) p ≡ 1) ↔ Lost P marks d f s p)
-      × Members (Lost P marks d f s) 16 (ones (a .lost))
-      -- at most r members, and more
-      × ((c : ℕ) → Members (Lost P marks d f s) 16 c → c ≤ 16 - P .k → (a .number ≡ 0) × (after ≡ d))
-      × ((c : ℕ) → Members (Lost P marks d f s) 16 c → 16 - P .k < c → (a .number ≡ 9) × (after ≡ before))
+      → BringsBack P marks d f s before after (a .lost) (a .number)
+  -- and for asking, where every piece was fed with the profile asked with and the number is 0, 9 or 10
+  pub sent-and-asked : (P : Profile) (d : List ℕ) (marks : ℕ) (f s : List Float) (state before after : List ℕ) (a : Receipt)
+      → length d ≡ 122 * P .k
+      → ((i : ℕ) → row d i < 256)
+      → ((p : ℕ) → p < 16 → Fair P marks d f s p)
+      → Fed (FeedRule P) f s state
+      → AskRule P marks state before after a
+      → T (hasRead (a .number))
+      → BringsBack P marks d f s before after (a .lost) (a .number)

@@ -11,5 +11,6 @@ pub mod Cells
 pub mod Profile
 pub mod Answers
 pub mod Block
+pub mod Pieces
 pub mod Demands
 pub mod Examples

@@ -1,0 +1,99 @@
+-- Document 02, Req 02: a grid whose cells arrive in pieces. Between the calls a state is kept: how many cells have come, and what each of them decides to.
+use mathlib.Core.Path.{_≡_}
+use mathlib.Core.Bool.{Bool, not, _&&_}
+use mathlib.Core.List.{List, [], _++_}
+use Prim.Native.Nat.{ℕ, _+_, _-_, _*_, _/_, _%_, _<_}
+use lib.Dec.{eqb, leb, ltb}
+use lib.Ieee.{Float}
+use lib.ListN.{length, getD, replicate}
+use Rattle.rules.specs.Bits.{pick, row, everyBelow}
+use Rattle.rules.specs.Slots.{symbols, symbolOf}
+use Rattle.rules.specs.Points.{zeroPart, decide}
+use Rattle.rules.specs.Cells.{pointCell}
+use Rattle.rules.specs.Profile.{inRange}
+use Rattle.rules.specs.Block.{understood, inBlock, Answered}
+use Rattle.rules.specs.declared.Profile.{Profile}
+use Rattle.rules.specs.declared.Receipt.{Receipt}
+
+-- ---- the state
+
+-- two bytes, then one for each cell of the largest grid
+abbrev pub stateBytes : ℕ
+stateBytes = 28674
+
+-- before the first piece
+unfoldable pub newState : List ℕ
+newState = replicate stateBytes 0
+
+-- how many cells have come, high byte first
+abbrev pub seen : List ℕ → ℕ
+seen state = 256 * row state 0 + row state 1
+
+-- the byte of cell c of the grid
+abbrev pub cellIn : List ℕ → ℕ → ℕ
+cellIn state c = row state (2 + c)
+
+-- what it is once the cell has come: the first part's decision, and 3 times the second's
+abbrev pub cellByte : Float → Float → ℕ
+cellByte first second = decide first + 3 * decide second
+
+-- each decision is one of three
+abbrev pub isCellByte : ℕ → Bool
+isCellByte b = ltb b 9
+
+-- a state that pieces of a grid of so many cells leave: those that have come have such bytes, and the others zero
+unfoldable pub isState : ℕ → List ℕ → Bool
+isState cells state =
+    eqb (length state) stateBytes
+    && (leb (seen state) cells
+    && everyBelow (length state - 2) (λ c. pick (ltb c (seen state)) (isCellByte (cellIn state c)) (eqb (cellIn state c) 0)))
+
+-- bit i of block slot t, still scrambled, from the bytes of the grid's cells
+unfoldable pub keptBit : (ℕ → ℕ) → ℕ → ℕ → ℕ
+keptBit cells t i = let b = cells (4096 * symbolOf t + pointCell t (i / 2)) in pick (eqb (i % 2) 0) (b % 3) (b / 3)
+
+-- ---- feeding
+
+-- 4, 22, 7, 16, the first that fits; else 0
+abbrev pub feeding : Profile → List ℕ → ℕ → ℕ → ℕ
+feeding P state firsts seconds =
+    pick (not (inRange P)) 4
+    (pick (not (isState (4096 * symbols (P .mode)) state)) 22
+    (pick (not (eqb firsts seconds)) 7 (pick (ltb (4096 * symbols (P .mode)) (seen state + firsts)) 16 0)))
+
+-- the byte of cell c once a piece has come after n cells: the piece's own, and else what it was
+abbrev pub fedCell : ℕ → List Float → List Float → (ℕ → ℕ) → ℕ → ℕ
+fedCell n f s before c =
+    pick (leb n c && ltb c (n + length f)) (cellByte (getD f (c - n) zeroPart) (getD s (c - n) zeroPart)) (before c)
+
+-- what feeding a piece answers, and what the state then is
+pub record FeedRule (P : Profile) (f s : List Float) (before after : List ℕ) (number : ℕ) : Type 0 where
+  pub answer : number ≡ feeding P before (length f) (length s)
+  pub long : length after ≡ length before
+  pub high : number ≡ 0 → row after 0 ≡ (seen before + length f) / 256
+  pub low : number ≡ 0 → row after 1 ≡ (seen before + length f) % 256
+  pub cells : number ≡ 0 → (c : ℕ) → 2 + c < stateBytes → cellIn after c ≡ fedCell (seen before) f s (cellIn before) c
+  pub kept : ¬ (number ≡ 0) → after ≡ before
+
+-- Pieces fed one after the other from the new state on, none refused: all their cells, and the state that they leave. Feed says what feeding a
+-- piece answers.
+pub data Fed (Feed : List Float → List Float → List ℕ → List ℕ → ℕ → Type 0) : List Float → List Float → List ℕ → Type 0 where
+  new : Fed Feed [] [] newState
+  piece : (f s f' s' : List Float) (before after : List ℕ)
+      → Fed Feed f s before
+      → Feed f' s' before after 0
+      → Fed Feed (f ++ f') (s ++ s') after
+
+-- ---- asking
+
+-- 4, 22, 6, 17, the first that fits; else 0
+abbrev pub asking : Profile → List ℕ → ℕ → ℕ
+asking P state bytes =
+    pick (not (inRange P)) 4
+    (pick (not (isState (4096 * symbols (P .mode)) state)) 22
+    (pick (not (eqb bytes (122 * P .k))) 6 (pick (ltb (seen state) (4096 * symbols (P .mode))) 17 0)))
+
+-- then the judgement of the bits that were kept
+abbrev pub AskRule : Profile → ℕ → List ℕ → List ℕ → List ℕ → Receipt → Type 0
+AskRule P marks state before after a =
+    Answered P marks (asking P state (length before)) (understood P (inBlock (P .mode) (keptBit (cellIn state)))) before after a
