@@ -1,4 +1,4 @@
--- What it tells that a symbol can be written or read.
+-- What it tells that a symbol can be written.
 use mathlib.Core.Path.{_≡_, sym, _∙_, subst}
 use mathlib.Core.Bool.{Bool, true, _&&_}
 use mathlib.Core.List.{List}
@@ -9,8 +9,7 @@ use lib.Ieee.Fits.{and-l, and-r}
 use lib.ListN.{length}
 use borrow.Author.Tests.{lt-ltb, eq-eqb}
 use Rattle.rules.specs.Slots.{slots, slotBits, symbols}
-use Rattle.laws.specs.Holds.{Holds}
-use Rattle.cells.specs.Symbol.{fitting, Written, WriteRule, decidedIn, ReadRule}
+use Rattle.cells.specs.Symbol.{fitting, Written, WriteRule}
 
 module _ (m symbol bits firsts seconds : ℕ) where
   pub record Fits : Type 0 where
@@ -41,15 +40,9 @@ module _ (m symbol bits firsts seconds : ℕ) where
         eq-eqb bits (slotBits m * slots m) (h .bits-long),
       )
 
--- what fits is written and read
+-- what fits is written
 pub write-done : {m : ℕ} {level : Float} {bits : List ℕ} {symbol : ℕ} {firsts seconds firsts' seconds' : List Float} {r : Bool}
     → WriteRule m level bits symbol firsts seconds firsts' seconds' r
     → Fits m symbol (length bits) (length firsts) (length seconds)
     → Written m level bits symbol firsts' seconds'
 write-done w h = w .done (w .answer ∙ fit _ _ _ _ _ h)
-
-pub read-done : {m symbol : ℕ} {firsts seconds : List Float} {before after : List ℕ} {r : Bool}
-    → ReadRule m symbol firsts seconds before after r
-    → Fits m symbol (length before) (length firsts) (length seconds)
-    → Holds 0 (slotBits m * slots m) (decidedIn m symbol firsts seconds before) after
-read-done w h = w .done (w .answer ∙ fit _ _ _ _ _ h)

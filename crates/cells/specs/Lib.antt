@@ -1,3 +1,4 @@
 pub mod Order
 pub mod Spot
 pub mod Symbol
+pub mod Reading

@@ -1,17 +1,20 @@
-// Points, cells and decisions; one symbol's cells written from a block's bits, and read into its decided bits.
+// Points, cells and decisions; one symbol's cells written from a block's bits, and a block's bits read from what its cells decide to.
 ghost use mathlib.Core.Path.{_≡_};
 ghost use Prim.Native.Nat.{_+_, _*_, _<_, _≤_};
 ghost use lib.Dec.{ltb};
 ghost use lib.ListN.{length, getD};
+ghost use Rattle.rules.specs.Bits.{row};
 ghost use Rattle.rules.specs.Slots.{slots, slotBits, symbols};
 ghost use Rattle.rules.specs.Points as points;
 ghost use Rattle.rules.specs.Points.{zeroPart, pointOf, firstPart, secondPart};
 ghost use Rattle.rules.specs.Cells as rule;
+ghost use Rattle.rules.specs.Pieces.{cellByte, keptBit};
 ghost use Rattle.laws.specs.Holds.{Holds};
 ghost use Rattle.cells.specs.Order.{Places, Points};
 ghost use Rattle.cells.specs.Spot.{belonging};
 ghost use Rattle.cells.specs.Symbol as symbolRule;
-ghost use Rattle.cells.specs.Symbol.{Signed, levelOf, symbolCell, WriteRule, slotsEnd, Decisions, readIn, ReadRule};
+ghost use Rattle.cells.specs.Symbol.{Signed, levelOf, symbolCell, WriteRule};
+ghost use Rattle.cells.specs.Reading.{DecideRule, ReadRule};
 
 mod place_table;
 mod point_table;
@@ -227,7 +230,7 @@ fn parts_of(cell: Cell) -> Point
     }
 }
 
-// Whether a symbol can be written or read: lists of 4096 cells, a symbol of the grid, and as many bits as the block has.
+// Whether a symbol can be written: lists of 4096 cells, a symbol of the grid, and as many bits as the block has.
 fn fitting(mode: u8, symbol: usize, bits: usize, firsts: usize, seconds: usize) -> bool
     ensures { λ r. ⌜ r ≡ symbolRule.fitting mode symbol bits firsts seconds ⌝ }
 {
@@ -301,66 +304,57 @@ fn point_in(firsts: &[f32], seconds: &[f32], c: usize) -> Point
     }
 }
 
-// The decisions of all of a symbol's cells, in their order: in the points' order a receive took 18 to 29 % longer than before Req 01.
-fn decisions(firsts: &[f32], seconds: &[f32]) -> [u8; 8192]
-    requires { ⌜ (length (now firsts) ≡ 4096) × (length (now seconds) ≡ 4096) ⌝ }
-    ensures { λ r. ⌜ Decisions (now (firsts .entry)) (now (seconds .entry)) r ⌝ }
+// A cell's decisions in one byte.
+fn cell_byte(p: Point) -> u8
+    ensures { λ r. ⌜ r ≡ cellByte (p .first) (p .second) ⌝ }
 {
-    let mut out = [0u8; 8192];
-    for c in 0..4096 {
-        let d = decide_point(point_in(firsts, seconds, c));
-        out[2 * c] = d.s0;
-        out[2 * c + 1] = d.s1;
-    }
-    out
+    decide(p.first) + 3 * decide(p.second)
 }
 
-// The decisions of block slot t's 500 points, from its symbol's.
-fn read_slot(mode: u8, t: usize, places: &[u16], heard: &[u8], decided: &mut [u8])
-    requires { ⌜ (t < slots mode) × Places (now places) × (length (now heard) ≡ 8192)
-        × (length (now decided) ≡ slotBits mode * slots mode) ⌝ }
-    ensures { λ _. ⌜ Holds 0 (slotBits mode * slots mode)
-        (readIn mode (slotBits mode * t) (slotBits mode * (t + 1)) (now (heard .entry)) (now (decided .entry)))
-        (now (decided .exit)) ⌝ }
+// What each cell decides to, in a byte each. Answers whether the lists are of one length; else nothing is written.
+pub fn decide_cells(firsts: &[f32], seconds: &[f32], out: &mut [u8]) -> bool
+    ensures { λ r. ⌜ DecideRule (now (firsts .entry)) (now (seconds .entry)) (now (out .entry)) (now (out .exit)) r ⌝ }
 {
+    if firsts.len() != out.len() {
+        return false;
+    }
+    if seconds.len() != out.len() {
+        return false;
+    }
+    for c in 0..out.len() {
+        out[c] = cell_byte(point_in(firsts, seconds, c));
+    }
+    true
+}
+
+// The 1000 bits of block slot t, from the bytes of the grid's cells.
+fn read_slot(mode: u8, t: usize, places: &[u16], cells: &[u8], bits: &mut [u8])
+    requires { ⌜ (t < slots mode) × Places (now places) × (length (now cells) ≡ 4096 * symbols mode) × (length (now bits) ≡ slotBits mode) ⌝ }
+    ensures { λ _. ⌜ Holds 0 (slotBits mode) (keptBit (row (now (cells .entry))) t) (now (bits .exit)) ⌝ }
+{
+    let from = 4096 * (t / 7);
     for i in 0..500 {
-        let c = point_cell(places, t, i);
-        let at = 1000 * t + 2 * i;
-        decided[at] = heard[2 * c];
-        decided[at + 1] = heard[2 * c + 1];
+        let b = cells[from + point_cell(places, t, i)];
+        bits[2 * i] = b % 3;
+        bits[2 * i + 1] = b / 3;
     }
 }
 
-// One past the last block slot of a symbol: the last symbol may have fewer than 7.
-fn slots_end(mode: u8, symbol: usize) -> usize
-    requires { ⌜ symbol < symbols mode ⌝ }
-    ensures { λ r. ⌜ r ≡ slotsEnd mode symbol ⌝ }
+// A block's bits from the bytes of the grid's cells. Answers whether there were as many cells and bits as the mode has; else nothing is written.
+pub fn read_block(mode: u8, cells: &[u8], bits: &mut [u8]) -> bool
+    ensures { λ r. ⌜ ReadRule mode (now (cells .entry)) (now (bits .entry)) (now (bits .exit)) r ⌝ }
 {
     let n = slot_count(mode);
-    if 7 * symbol + 7 < n {
-        return 7 * symbol + 7;
+    if cells.len() != 4096 * ((n + 6) / 7) {
+        return false;
     }
-    n
-}
-
-// The decisions of one symbol's own cells, put to their places among the block's bits; the other bits stay. Answers whether they were read.
-pub fn read_symbol(
-    mode: u8,
-    symbol: usize,
-    firsts: &[f32],
-    seconds: &[f32],
-    decided: &mut [u8],
-) -> bool
-    ensures { λ r. ⌜ ReadRule mode symbol (now (firsts .entry)) (now (seconds .entry)) (now (decided .entry)) (now (decided .exit)) r ⌝ }
-{
-    if !fitting(mode, symbol, decided.len(), firsts.len(), seconds.len()) {
+    if bits.len() != 1000 * n {
         return false;
     }
     let places = places();
-    let heard = decisions(firsts, seconds);
-    let end = slots_end(mode, symbol);
-    for t in 7 * symbol..end {
-        read_slot(mode, t, &places, &heard, decided);
+    for t in 0..n {
+        let at = 1000 * t;
+        read_slot(mode, t, &places, cells, &mut bits[at..at + 1000]);
     }
     true
 }

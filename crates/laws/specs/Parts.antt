@@ -47,10 +47,10 @@ module _ {A : Type 0} where
       head-long : length (take a l) ≡ a
       head-long = length-take-le a l (omega arith)
 
-      put-long : length (putPart a e l y) ≡ length l
+      pub put-long : length (putPart a e l y) ≡ length l
       put-long = simp (length-append, length-drop, head-long, long) (omega arith)
 
-      put-before : (k : ℕ) (d : A) → k < a → getD (putPart a e l y) k d ≡ getD l k d
+      pub put-before : (k : ℕ) (d : A) → k < a → getD (putPart a e l y) k d ≡ getD l k d
       put-before k d h =
           List·getD-append (take a l) (y ++ drop (e - a) (drop a l)) d k (omega (arith, head-long)) ∙ getD-take a l k d h
 
@@ -60,10 +60,10 @@ module _ {A : Type 0} where
           ap (λ (n : ℕ). getD (putPart a e l y) (n + k) d) (sym head-long)
           ∙ getD-append-add (take a l) (y ++ drop (e - a) (drop a l)) k d
 
-      put-in : (k : ℕ) (d : A) → a + k < e → getD (putPart a e l y) (a + k) d ≡ getD y k d
+      pub put-in : (k : ℕ) (d : A) → a + k < e → getD (putPart a e l y) (a + k) d ≡ getD y k d
       put-in k d h = past k d ∙ List·getD-append y (drop (e - a) (drop a l)) d k (omega arith)
 
-      put-after : (k : ℕ) (d : A) → getD (putPart a e l y) (e + k) d ≡ getD l (e + k) d
+      pub put-after : (k : ℕ) (d : A) → getD (putPart a e l y) (e + k) d ≡ getD l (e + k) d
       put-after k d =
           let there : e + k ≡ a + (e - a + k) = omega arith in
           ap (λ (n : ℕ). getD (putPart a e l y) n d) there ∙ past (e - a + k) d

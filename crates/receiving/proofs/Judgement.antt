@@ -1,21 +1,26 @@
 -- What is judged goes by the block's own bits alone; and the packets' judgements, with what the outer code makes of them, are the block's.
 use mathlib.Core.Path.{_≡_, refl, sym, _∙_, ap}
 use mathlib.Core.Bool.{Bool, true, false}
-use mathlib.Core.List.{List}
-use Prim.Native.Nat.{ℕ, _+_, _*_, _/_, _<_}
+use mathlib.Core.List.{List, _++_}
+use Prim.Native.Nat.{ℕ, _+_, _*_, _/_, _%_, _<_}
 use native.Mathlib.Omega.{arith}
 use lib.Dec.{eqb}
+use lib.Ieee.{Float}
+use lib.ListN.{List·getD-append}
 use borrow.Author.Tests.{eq-eqb}
 use Rattle.rules.specs.Bits.{pick, row}
 use Rattle.rules.specs.Outer.{column, marked}
-use Rattle.rules.specs.Slots.{packetBits, slotBits, slots}
-use Rattle.rules.specs.Block.{packetPart, decidedData, byteOf, understood, Delivered, Judged}
+use Rattle.rules.specs.Slots.{packetBits, slotBits, slots, symbols}
+use Rattle.rules.specs.Block.{packetPart, decidedData, byteOf, scrambler, unscrambled, understood, inBlock, decided, Delivered, Judged}
+use Rattle.rules.specs.Pieces.{keptBit}
 use Rattle.rules.specs.declared.Profile.{Profile}
 use Rattle.rules.specs.declared.Receipt.{Receipt}
 use Rattle.laws.specs.Holds.{Holds}
 use Rattle.laws.specs.Filled.{upTo-below}
 use Rattle.laws.specs.Mask.{mask-same, mask-kept}
 use Rattle.laws.specs.Parts.{part-within}
+use Rattle.cells.specs.Reading.{byteAt}
+use Rattle.cells.proofs.Reading.{kept-heard, kept-same}
 use Rattle.profile.proofs.Entries.{slots-most}
 use Rattle.turbo.specs.Blocks.{reasonAt, keptAt, WeighedTo}
 use Rattle.turbo.proofs.Weighing.{bytes-same, reason-same, kept-at}
@@ -45,6 +50,12 @@ delivered-same e (Delivered.noCodeword few j l none kept) =
 -- bit i of packet p is one of the block's
 part-lt : (m p i : ℕ) → p < 16 → i < packetBits m → packetBits m * p + i < slotBits m * slots m
 part-lt m p i q h = omega (arith, part-within (packetBits m) p 16 q, block-bits m)
+
+-- a bit said in another way is unscrambled alike
+again : (P : Profile) (g : ℕ) {x y : ℕ} → x ≡ y
+    → unscrambled x (scrambler P (g / slotBits (P .mode)) (g % slotBits (P .mode)))
+    ≡ unscrambled y (scrambler P (g / slotBits (P .mode)) (g % slotBits (P .mode)))
+again P g = ap (λ (b : ℕ). unscrambled b (scrambler P (g / slotBits (P .mode)) (g % slotBits (P .mode))))
 
 module _ (P : Profile) (marks : ℕ) {before after : List ℕ} {a : Receipt} where
   -- judging goes by the block's own bits
@@ -101,8 +112,36 @@ module _ (P : Profile) (marks : ℕ) {before after : List ℕ} {a : Receipt} whe
   pub scrambled-judged : (bits plain : List ℕ)
       → Holds 0 48000 (scrambledRow (P .seeds) (P .masks) (slotBits (P .mode) * slots (P .mode)) (row bits)) plain
       → Judged P marks (row plain) before after a
-      → Judged P marks (understood P bits) before after a
+      → Judged P marks (understood P (row bits)) before after a
   scrambled-judged bits plain h =
-      judged-same (row plain) (understood P bits)
+      judged-same (row plain) (understood P (row bits))
       (λ g lt. h .each g (omega (arith, slots-most (P .mode)))
-      ∙ upTo-below (understood P bits) (row bits) (slotBits (P .mode) * slots (P .mode)) g lt)
+      ∙ upTo-below (understood P (row bits)) (row bits) (slotBits (P .mode) * slots (P .mode)) g lt)
+
+  -- the block's bits that were read from the cells' bytes, with room left after them
+  pub read-judged : (cells : ℕ → ℕ) (bits rest : List ℕ)
+      → Holds 0 (slotBits (P .mode) * slots (P .mode)) (inBlock (P .mode) (keptBit cells)) bits
+      → Judged P marks (understood P (row (bits ++ rest))) before after a
+      → Judged P marks (understood P (inBlock (P .mode) (keptBit cells))) before after a
+  read-judged cells bits rest h =
+      judged-same (understood P (row (bits ++ rest))) (understood P (inBlock (P .mode) (keptBit cells)))
+      (λ g lt. again P g (List·getD-append bits rest 0 g (omega (arith, h .long)) ∙ h .each g lt))
+
+  -- where each byte is what its cell decides to, the bits are those that the grid's cells decide to
+  pub kept-judged : (cells : ℕ → ℕ) (f s : List Float)
+      → ((c : ℕ) → c < 4096 * symbols (P .mode) → cells c ≡ byteAt f s c)
+      → Judged P marks (understood P (inBlock (P .mode) (keptBit cells))) before after a
+      → Judged P marks (decided P f s) before after a
+  unfolding decided
+  kept-judged cells f s each =
+      judged-same (understood P (inBlock (P .mode) (keptBit cells))) (decided P f s)
+      (λ g lt. again P g (kept-heard cells (P .mode) f s each (g / slotBits (P .mode)) (g % slotBits (P .mode)) (omega arith) (omega arith)))
+
+  -- the same bytes said in another way
+  pub cells-judged : (cells cells' : ℕ → ℕ)
+      → ((c : ℕ) → c < 4096 * symbols (P .mode) → cells c ≡ cells' c)
+      → Judged P marks (understood P (inBlock (P .mode) (keptBit cells))) before after a
+      → Judged P marks (understood P (inBlock (P .mode) (keptBit cells'))) before after a
+  cells-judged cells cells' each =
+      judged-same (understood P (inBlock (P .mode) (keptBit cells))) (understood P (inBlock (P .mode) (keptBit cells')))
+      (λ g lt. again P g (kept-same cells cells' (P .mode) each (g / slotBits (P .mode)) (g % slotBits (P .mode)) (omega arith) (omega arith)))

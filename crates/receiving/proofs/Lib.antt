@@ -1,4 +1,5 @@
 pub mod Judgement
-pub mod OneSymbol
 pub mod Numbers
-pub mod BySymbol
+pub mod States
+pub mod Fed
+pub mod Putting

@@ -1,11 +1,15 @@
-// Judging a block's bits: unscrambling, the packets one by one, and what the outer code makes of them.
+// Judging what a grid's cells decide to: the block's bits, unscrambling, the packets one by one, and what the outer code makes of them.
 ghost use mathlib.Core.Path.{_≡_};
 ghost use Prim.Native.Nat.{_*_};
 ghost use lib.Dec.{T};
 ghost use lib.ListN.{length};
+ghost use Rattle.rules.specs.Bits.{row};
 ghost use Rattle.rules.specs.Outer.{isK, column};
+ghost use Rattle.rules.specs.Slots.{symbols};
 ghost use Rattle.rules.specs.Profile.{inRange};
-ghost use Rattle.rules.specs.Block.{understood, Delivered, Judged};
+ghost use Rattle.rules.specs.Block.{understood, inBlock, Delivered, Judged};
+ghost use Rattle.rules.specs.Pieces.{keptBit};
+use block::block_bits;
 use block::scrambled;
 use rules::Profile;
 use rules::Receipt;
@@ -35,9 +39,9 @@ fn deliver(k: u8, lost: u16, block: [u8; 1952], data: &mut [u8]) -> u32
 }
 
 // Judges a block's bits, still scrambled, and delivers the data.
-pub(crate) fn judge(p: Profile, marks: u16, bits: [u8; 48000], data: &mut [u8]) -> Receipt
+fn judge(p: Profile, marks: u16, bits: [u8; 48000], data: &mut [u8]) -> Receipt
     requires { ⌜ T (inRange p) × (length (now «data») ≡ 122 * p .k) ⌝ }
-    ensures { λ r. ⌜ Judged p marks (understood p bits) (now («data» .entry)) (now («data» .exit)) r ⌝ }
+    ensures { λ r. ⌜ Judged p marks (understood p (row bits)) (now («data» .entry)) (now («data» .exit)) r ⌝ }
 {
     let v = turbo::judge_block(p.mode, marks, scrambled(p, bits));
     let block = v.block;
@@ -47,4 +51,15 @@ pub(crate) fn judge(p: Profile, marks: u16, bits: [u8; 48000], data: &mut [u8]) 
         lost: v.lost,
         reasons,
     }
+}
+
+// Judges what the cells of a whole grid decide to, and delivers the data.
+pub(crate) fn judge_cells(p: Profile, marks: u16, cells: &[u8], data: &mut [u8]) -> Receipt
+    requires { ⌜ T (inRange p) × (length (now «data») ≡ 122 * p .k) × (length (now cells) ≡ 4096 * symbols (p .mode)) ⌝ }
+    ensures { λ r. ⌜ Judged p marks (understood p (inBlock (p .mode) (keptBit (row (now (cells .entry)))))) (now («data» .entry)) (now («data» .exit)) r ⌝ }
+{
+    let n = block_bits(p.mode);
+    let mut bits = [0u8; 48000];
+    cells::read_block(p.mode, cells, &mut bits[..n]);
+    judge(p, marks, bits, data)
 }

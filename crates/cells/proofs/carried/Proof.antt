@@ -4,7 +4,7 @@ use native.Mathlib.Omega.{arith}
 use borrow.Author.Needs.{needs}
 use borrow.Author.Tests.{ltb-true, ltb-false}
 use Rattle.rules.specs.Slots.{symbols}
-use Rattle.cells.proofs.Heard.{slots-lt}
+use Rattle.cells.proofs.Reading.{slots-lt}
 use Rattle.cells.proofs.Inverse.{carried-past}
 use Rattle.cells.proofs.carried.Statement.{statement}
 use Rattle.cells.proofs.carried.Tie as tie

@@ -11,7 +11,7 @@ use Rattle.rules.specs.Points.{zeroPart, firstPart, secondPart}
 use Rattle.cells.specs.Symbol.{symbolCell}
 use Rattle.laws.specs.Holds.{Holds}
 use Rattle.laws.specs.Filled.{upTo, holds-first, holds-next, holds-whole}
-use Rattle.cells.proofs.Heard.{slots-lt}
+use Rattle.cells.proofs.Reading.{slots-lt}
 use Rattle.cells.proofs.Signs.{signed-level, signed-own}
 use Rattle.cells.proofs.Fits.{Fits, fits}
 use Rattle.cells.proofs.write_symbol.Statement.{statement}

@@ -1,0 +1,28 @@
+-- A piece's cells decided one by one, and a block's bits read from what the grid's cells decide to.
+use mathlib.Core.Path.{_≡_}
+use mathlib.Core.Bool.{Bool, true, false, _&&_}
+use mathlib.Core.List.{List}
+use Prim.Native.Nat.{ℕ, _*_}
+use lib.Dec.{eqb}
+use lib.Ieee.{Float}
+use lib.ListN.{length, getD}
+use Rattle.rules.specs.Bits.{row}
+use Rattle.rules.specs.Slots.{slots, slotBits, symbols}
+use Rattle.rules.specs.Points.{zeroPart}
+use Rattle.rules.specs.Block.{inBlock}
+use Rattle.rules.specs.Pieces.{cellByte, keptBit}
+use Rattle.laws.specs.Holds.{Holds}
+
+-- the byte of cell c of two lists
+abbrev pub byteAt : List Float → List Float → ℕ → ℕ
+byteAt firsts seconds c = cellByte (getD firsts c zeroPart) (getD seconds c zeroPart)
+
+pub record DecideRule (firsts seconds : List Float) (before after : List ℕ) (r : Bool) : Type 0 where
+  pub answer : r ≡ (eqb (length firsts) (length before) && eqb (length seconds) (length before))
+  pub done : r ≡ true → Holds 0 (length before) (byteAt firsts seconds) after
+  pub kept : r ≡ false → after ≡ before
+
+pub record ReadRule (m : ℕ) (cells before after : List ℕ) (r : Bool) : Type 0 where
+  pub answer : r ≡ (eqb (length cells) (4096 * symbols m) && eqb (length before) (slotBits m * slots m))
+  pub done : r ≡ true → Holds 0 (slotBits m * slots m) (inBlock m (keptBit (row cells))) after
+  pub kept : r ≡ false → after ≡ before

@@ -1,0 +1,336 @@
+-- Pieces that are fed: what they leave, and that the states which pieces leave are exactly those that 22 does not refuse.
+use mathlib.Core.Path.{_≡_, refl, sym, _∙_, ap, ap₂, subst}
+use mathlib.Core.Bool.{Bool, true, false, not, _&&_}
+use mathlib.Core.List.{List, [], _∷_, _++_}
+use mathlib.Core.Logic.{_↔_, Iff·trans}
+use Prim.Native.Nat.{ℕ, zero, suc, _+_, _-_, _*_, _/_, _%_, _<_, _≤_}
+use native.Mathlib.Decide.{ℕ-discrete, decLt}
+use native.Mathlib.Nat.{le-of-suc-le-suc}
+use native.Mathlib.Omega.{arith}
+use lib.Dec.{T, eqb, leb, ltb, eqb→eq, leb→le, le→leb, ltb→lt, lt→ltb, lit<, lit≤}
+use lib.Ieee.{Float, binary32, ofBits, lt}
+use lib.Ieee.Fits.{and-i, and-l, and-r, eq→eqb}
+use lib.ListN.{length, getD, replicate, length-append, length-replicate, getD-replicate, List·getD-append, List·getD-eq-default}
+use lib.Seq.{getD-append-add, ext-getD}
+use borrow.Author.Tests.{ltb-false, lt-ltb, le-ltb, le-leb, lt-leb}
+use Rattle.rules.specs.Bits.{pick, row, everyBelow}
+use Rattle.rules.specs.Slots.{symbols}
+use Rattle.rules.specs.Points.{zeroPart, decide}
+use Rattle.rules.specs.Profile.{inRange}
+use Rattle.rules.specs.Answers.{isNumber, hasRead}
+use Rattle.rules.specs.Block.{Answered, Delivered}
+use Rattle.rules.specs.Pieces.{newState, seen, cellIn, cellByte, isCellByte, isState, stateBytes, feeding, fedCell, FeedRule, Fed, asking, AskRule}
+use Rattle.rules.specs.Demands.{LeftBy}
+use Rattle.rules.specs.declared.Profile.{Profile}
+use Rattle.rules.specs.declared.Receipt.{Receipt}
+use Rattle.cells.proofs.Deciding.{decide-lt}
+use Rattle.receiving.proofs.States.{IsState, is-state, grid-fits, feeding-taken, feeding-22, asking-0, asking-22, asking-not-read}
+
+-- ---- what a new state and a fed cell are
+
+-- a list of zeros, read at any place
+zeros : (n i : ℕ) → row (replicate n 0) i ≡ 0
+zeros n i = go (decLt i n)
+  where
+    go : Dec (i < n) → row (replicate n 0) i ≡ 0
+    go (yes l) = getD-replicate n i 0 0 l
+    go (no l) = List·getD-eq-default (replicate n 0) 0 {n = i} (omega (arith, length-replicate {A = ℕ} n 0))
+
+pub new-long : length newState ≡ 28674
+unfolding newState
+new-long = length-replicate {A = ℕ} 28674 0
+
+pub new-row : (i : ℕ) → row newState i ≡ 0
+unfolding newState
+new-row i = zeros 28674 i
+
+pub new-seen : seen newState ≡ 0
+new-seen = omega (arith, new-row 0, new-row 1)
+
+-- the byte of a cell that had come before the piece, comes in it, or has not come yet
+module _ (n : ℕ) (f s : List Float) (before : ℕ → ℕ) (c : ℕ) where
+  abbrev fedAs : Bool → ℕ
+  fedAs b = pick b (cellByte (getD f (c - n) zeroPart) (getD s (c - n) zeroPart)) (before c)
+
+  pub fed-before : c < n → fedCell n f s before c ≡ before c
+  fed-before h = ap (λ (b : Bool). fedAs (b && ltb c (n + length f))) (lt-leb n c h)
+
+  pub fed-in : n ≤ c → c < n + length f → fedCell n f s before c ≡ cellByte (getD f (c - n) zeroPart) (getD s (c - n) zeroPart)
+  fed-in h l = ap₂ (λ (a b : Bool). fedAs (a && b)) (le-leb n c h) (lt-ltb c (n + length f) l)
+
+  pub fed-after : n ≤ c → n + length f ≤ c → fedCell n f s before c ≡ before c
+  fed-after h l = ap₂ (λ (a b : Bool). fedAs (a && b)) (le-leb n c h) (le-ltb c (n + length f) l)
+
+-- ---- parts that decide to what is wanted
+
+partFor : ℕ → Float
+partFor d = pick (eqb d 0) (ofBits binary32 0x3F80_0000) (pick (eqb d 1) (ofBits binary32 0xBF80_0000) zeroPart)
+
+part-decides : (d : ℕ) → d < 3 → decide (partFor d) ≡ d
+unfolding partFor decide ofBits lt
+part-decides zero h = refl
+part-decides (suc zero) h = refl
+part-decides (suc (suc zero)) h = refl
+part-decides (suc (suc (suc d))) h = absurd (omega arith)
+
+-- the first n that a function says, as a list
+abbrev made : ℕ → (ℕ → Float) → List Float
+made zero g = []
+made (suc n) g = g 0 ∷ made n (λ k. g (suc k))
+
+made-long : (n : ℕ) (g : ℕ → Float) → length (made n g) ≡ n
+made-long zero g = refl
+made-long (suc n) g = ap suc (made-long n (λ k. g (suc k)))
+
+made-at : (n : ℕ) (g : ℕ → Float) (i : ℕ) (d : Float) → i < n → getD (made n g) i d ≡ g i
+made-at zero g i d h = absurd (omega arith)
+made-at (suc n) g zero d h = refl
+made-at (suc n) g (suc i) d h = made-at n (λ k. g (suc k)) i d (le-of-suc-le-suc h)
+
+-- where the outer code has spoken, the cells were read
+delivered-read : {k lost : ℕ} {kept : ℕ → ℕ → ℕ} {before after : List ℕ} {n : ℕ} → Delivered k lost kept before after n → T (hasRead n)
+delivered-read (Delivered.whole few w agree long is) = tt
+delivered-read (Delivered.tooMany many e) = tt
+delivered-read (Delivered.noCodeword few j l none e) = tt
+
+module _ (P : Profile) where
+  -- how many cells the grid has
+  abbrev grid : ℕ
+  grid = 4096 * symbols (P .mode)
+
+  -- ---- what fed pieces leave
+
+  -- the state counts the cells and keeps what each decides to
+  pub record Left (f s : List Float) (state : List ℕ) : Type 0 where
+    pub long : length state ≡ 28674
+    pub firsts : seen state ≡ length f
+    pub seconds : length s ≡ length f
+    pub within : length f ≤ grid
+    pub low : row state 1 < 256
+    pub high : row state 0 < 256
+    pub come : (c : ℕ) → c < length f → cellIn state c ≡ cellByte (getD f c zeroPart) (getD s c zeroPart)
+    pub rest : (c : ℕ) → length f ≤ c → 2 + c < 28674 → cellIn state c ≡ 0
+
+  left-new : Left [] [] newState
+  left-new =
+      record {
+        long = new-long;
+        firsts = new-seen;
+        seconds = refl;
+        within = omega arith;
+        low = omega (arith, new-row 1);
+        high = omega (arith, new-row 0);
+        come = λ c h. absurd (omega arith);
+        rest = λ c h l. new-row (2 + c);
+      }
+
+  left-piece : (f s f' s' : List Float) (before after : List ℕ) → Left f s before → FeedRule P f' s' before after 0 → Left (f ++ f') (s ++ s') after
+  left-piece f s f' s' before after w r =
+      record {
+        long = r .long ∙ w .long;
+        firsts = omega (arith, r .high refl, r .low refl, length-append f f');
+        seconds = omega (arith, t .2, length-append f f', length-append s s');
+        within = omega (arith, t .3, length-append f f');
+        low = omega (arith, r .low refl);
+        high = omega (arith, r .high refl, t .3, grid-fits (P .mode));
+        come = λ c h. go c (omega (arith, length-append f f')) (decLt c (length f));
+        rest = λ c h l.
+            r .cells refl c l
+            ∙ fed-after (seen before) f' s' (cellIn before) c (omega (arith, length-append f f')) (omega (arith, length-append f f'))
+            ∙ w .rest c (omega (arith, length-append f f')) l;
+      }
+    where
+      t : T (inRange P) × T (isState grid before) × (length f' ≡ length s') × (seen before + length f' ≤ grid)
+      t = feeding-taken P before (length f') (length s') .0 (sym (r .answer))
+
+      -- past the seam of two lists
+      past : (g g' : List Float) (c k : ℕ) → length g + k ≡ c → getD (g ++ g') c zeroPart ≡ getD g' k zeroPart
+      past g g' c k e = ap (λ (i : ℕ). getD (g ++ g') i zeroPart) (sym e) ∙ getD-append-add g g' k zeroPart
+
+      go : (c : ℕ)
+          → c < length f + length f'
+          → Dec (c < length f)
+          → cellIn after c ≡ cellByte (getD (f ++ f') c zeroPart) (getD (s ++ s') c zeroPart)
+      go c h (yes l) =
+          r .cells refl c (omega (arith, grid-fits (P .mode)))
+          ∙ fed-before (seen before) f' s' (cellIn before) c (omega arith) ∙ w .come c l
+          ∙ sym (ap₂ cellByte (List·getD-append f f' zeroPart c l) (List·getD-append s s' zeroPart c (omega arith)))
+      go c h (no l) =
+          r .cells refl c (omega (arith, t .3, grid-fits (P .mode)))
+          ∙ fed-in (seen before) f' s' (cellIn before) c (omega arith) (omega arith)
+          ∙ sym (ap₂ cellByte (past f f' c (c - seen before) (omega arith)) (past s s' c (c - seen before) (omega arith)))
+
+  pub fed-left : {f s : List Float} {state : List ℕ} → Fed (FeedRule P) f s state → Left f s state
+  fed-left Fed.new = left-new
+  fed-left (Fed.piece f s f' s' before after h r) = left-piece f s f' s' before after (fed-left h) r
+
+  pub left-state : {f s : List Float} {state : List ℕ} → Left f s state → T (isState grid state)
+  left-state {f} {s} {state} w =
+      is-state grid state .1
+      (record {
+        long = w .long;
+        within = omega arith;
+        come = λ c h. omega (arith, w .come c (omega arith), decide-lt (getD f c zeroPart), decide-lt (getD s c zeroPart));
+        rest = λ c h l. w .rest c (omega arith) l;
+      })
+
+  pub fed-state : {f s : List Float} {state : List ℕ} → Fed (FeedRule P) f s state → T (isState grid state)
+  fed-state h = left-state (fed-left h)
+
+  -- ---- 22 exactly
+
+  -- one piece from the new state on leaves a state that passes the test
+  module _ (state : List ℕ) (w : IsState grid state) where
+    firsts : List Float
+    firsts = made (seen state) (λ c. partFor (cellIn state c % 3))
+
+    seconds : List Float
+    seconds = made (seen state) (λ c. partFor (cellIn state c / 3))
+
+    firsts-long : length firsts ≡ seen state
+    unfolding firsts
+    firsts-long = made-long (seen state) _
+
+    seconds-long : length seconds ≡ seen state
+    unfolding seconds
+    seconds-long = made-long (seen state) _
+
+    made-byte : (c k : ℕ) → c < seen state → k ≡ c → cellByte (getD firsts k zeroPart) (getD seconds k zeroPart) ≡ cellIn state c
+    unfolding firsts seconds
+    made-byte c k h e =
+        subst (λ (i : ℕ). cellByte (getD firsts i zeroPart) (getD seconds i zeroPart) ≡ cellIn state c) (sym e) (omega (arith, one, two))
+      where
+        one : decide (getD firsts c zeroPart) ≡ cellIn state c % 3
+        one = ap decide (made-at (seen state) _ c zeroPart h) ∙ part-decides (cellIn state c % 3) (omega arith)
+
+        two : decide (getD seconds c zeroPart) ≡ cellIn state c / 3
+        two = ap decide (made-at (seen state) _ c zeroPart h) ∙ part-decides (cellIn state c / 3) (omega (arith, w .come c h))
+
+    made-cell : (c : ℕ) → 2 + c < 28674 → cellIn state c ≡ fedCell (seen newState) firsts seconds (cellIn newState) c
+    made-cell c l = go (decLt c (seen state))
+      where
+        go : Dec (c < seen state) → cellIn state c ≡ fedCell (seen newState) firsts seconds (cellIn newState) c
+        go (yes h) =
+            sym (fed-in (seen newState) firsts seconds (cellIn newState) c (omega (arith, new-seen)) (omega (arith, new-seen, firsts-long))
+            ∙ made-byte c (c - seen newState) h (omega (arith, new-seen)))
+        go (no h) =
+            w .rest c (omega arith) l
+            ∙ sym (fed-after (seen newState) firsts seconds (cellIn newState) c (omega (arith, new-seen)) (omega (arith, new-seen, firsts-long))
+            ∙ new-row (2 + c))
+
+    made-rule : T (inRange P) → row state 1 < 256 → FeedRule P firsts seconds newState state 0
+    made-rule range low =
+        record {
+          answer =
+              sym (feeding-taken P newState (length firsts) (length seconds) .1
+              (range, left-state left-new, firsts-long ∙ sym seconds-long, omega (arith, new-seen, firsts-long)));
+          long = w .long ∙ sym new-long;
+          high = λ z. omega (arith, new-seen, firsts-long);
+          low = λ z. omega (arith, new-seen, firsts-long);
+          cells = λ z. made-cell;
+          kept = λ ne. absurd (ne refl);
+        }
+
+  module _ (state : List ℕ) (bytes : (i : ℕ) → row state i < 256) where
+    pub state-fed : T (inRange P) → T (isState grid state) → LeftBy P state
+    state-fed range t =
+        let w = is-state grid state .0 t in
+        (firsts state w, seconds state w, Fed.piece [] [] (firsts state w) (seconds state w) newState state Fed.new (made-rule state w range (bytes 1)))
+
+    -- so the test passes exactly the states that pieces leave
+    pub left-by : T (inRange P) → T (isState grid state) ↔ LeftBy P state
+    left-by range = (state-fed range, λ l. fed-state (l .2))
+
+    not-left : (T (inRange P) × ¬ T (isState grid state)) ↔ (T (inRange P) × ¬ LeftBy P state)
+    not-left = ((λ q. (q .0, λ l. q .1 (left-by (q .0) .1 l))), λ q. (q .0, λ t. q .1 (left-by (q .0) .0 t)))
+
+  pub feed-22 : (f s : List Float) (before after : List ℕ) (n : ℕ)
+      → ((i : ℕ) → row before i < 256)
+      → FeedRule P f s before after n
+      → (n ≡ 22) ↔ (T (inRange P) × ¬ LeftBy P before)
+  feed-22 f s before after n bytes r = rw (r .answer) (Iff·trans (feeding-22 P before (length f) (length s)) (not-left before bytes))
+
+  -- a number at which no cell is read is answered exactly where it comes first
+  answered-as : (marks n q : ℕ) (v : ℕ → ℕ) (before after : List ℕ) (a : Receipt)
+      → ¬ T (hasRead q)
+      → Answered P marks n v before after a
+      → (a .number ≡ q) ↔ (n ≡ q)
+  answered-as marks n q v before after a unread r = go (ℕ-discrete n 0)
+    where
+      go : Dec (n ≡ 0) → (a .number ≡ q) ↔ (n ≡ q)
+      go (yes z) = (
+        (λ e. absurd (unread (subst (λ (k : ℕ). T (hasRead k)) e (delivered-read (r .judged z .delivered))))),
+        λ e. absurd (unread (subst (λ (k : ℕ). T (hasRead k)) (sym z ∙ e) tt)),
+      )
+      go (no ne) = let is : a .number ≡ n = ap (λ (b : Receipt). b .number) (r .refused ne .0) in ((λ e. sym is ∙ e), λ e. is ∙ e)
+
+  pub ask-22 : (marks : ℕ) (state before after : List ℕ) (a : Receipt)
+      → ((i : ℕ) → row state i < 256)
+      → AskRule P marks state before after a
+      → (a .number ≡ 22) ↔ (T (inRange P) × ¬ LeftBy P state)
+  ask-22 marks state before after a bytes r =
+      Iff·trans (answered-as marks (asking P state (length before)) 22 _ before after a (λ t. t) r)
+      (Iff·trans (asking-22 P state (length before)) (not-left state bytes))
+
+  -- ---- what is taken, what is read, and that there is one answer
+
+  pub takes : (f s f' s' : List Float) (before after : List ℕ) (n : ℕ)
+      → T (inRange P)
+      → Fed (FeedRule P) f s before
+      → FeedRule P f' s' before after n
+      → (n ≡ 0) ↔ ((length f' ≡ length s') × (length f + length f' ≤ grid))
+  takes f s f' s' before after n range h r =
+      let w = fed-left h in
+      let iff = feeding-taken P before (length f') (length s') in (
+        (λ e. let q = iff .0 (sym (r .answer) ∙ e) in (q .2, omega (arith, q .3))),
+        λ q. r .answer ∙ iff .1 (range, left-state w, q .0, omega (arith, q .1)),
+      )
+
+  pub ask-reads : (marks : ℕ) (f s : List Float) (state before after : List ℕ) (a : Receipt)
+      → Fed (FeedRule P) f s state
+      → AskRule P marks state before after a
+      → T (hasRead (a .number)) ↔ (T (inRange P) × (length before ≡ 122 * P .k) × (length f ≡ grid))
+  ask-reads marks f s state before after a h r = (
+    (λ t. let q = iff .0 (read t (ℕ-discrete n 0)) in (q .0, q .2, sym (w .firsts) ∙ q .3)),
+    λ q. delivered-read (r .judged (iff .1 (q .0, left-state w, q .1, w .firsts ∙ q .2)) .delivered),
+  )
+    where
+      n : ℕ
+      n = asking P state (length before)
+
+      w : Left f s state
+      w = fed-left h
+
+      iff : (n ≡ 0) ↔ (T (inRange P) × T (isState grid state) × (length before ≡ 122 * P .k) × (seen state ≡ grid))
+      iff = asking-0 P state (length before)
+
+      read : T (hasRead (a .number)) → Dec (n ≡ 0) → n ≡ 0
+      read t (yes z) = z
+      read t (no ne) = absurd (asking-not-read P state (length before) ne (subst (λ (b : Receipt). T (hasRead (b .number))) (r .refused ne .0) t))
+
+  pub one-feeding : (f s : List Float) (before after after' : List ℕ) (n m : ℕ)
+      → FeedRule P f s before after n
+      → FeedRule P f s before after' m
+      → (n ≡ m) × (after ≡ after')
+  one-feeding f s before after after' n m x y = (same, go (ℕ-discrete n 0))
+    where
+      same : n ≡ m
+      same = x .answer ∙ sym (y .answer)
+
+      go : Dec (n ≡ 0) → after ≡ after'
+      go (no ne) = x .kept ne ∙ sym (y .kept (λ e. ne (same ∙ e)))
+      go (yes e) = ext-getD 0 after after' (x .long ∙ sym (y .long)) each
+        where
+          e' : m ≡ 0
+          e' = sym same ∙ e
+
+          long : length before ≡ 28674
+          long = is-state grid before .0 (feeding-taken P before (length f) (length s) .0 (sym (x .answer) ∙ e) .1) .long
+
+          each : (i : ℕ) → i < length after → row after i ≡ row after' i
+          each zero h = x .high e ∙ sym (y .high e')
+          each (suc zero) h = x .low e ∙ sym (y .low e')
+          each (suc (suc c)) h =
+              let at : 2 + c ≡ suc (suc c) = omega arith in
+              let l : 2 + c < 28674 = omega (arith, x .long, long) in
+              subst (λ (i : ℕ). row after i ≡ row after' i) at (x .cells e c l ∙ sym (y .cells e' c l))

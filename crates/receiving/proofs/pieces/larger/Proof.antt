@@ -1,0 +1,14 @@
+use mathlib.Core.Path.{refl}
+use mathlib.Core.Logic.{inl, inr}
+use native.Mathlib.Omega.{arith}
+use Rattle.receiving.proofs.pieces.larger.Statement.{statement}
+use Rattle.receiving.proofs.pieces.larger.Tie as tie
+
+returns : tie.Need-returns
+returns c = (omega arith, omega arith, inl refl)
+
+returns-2 : tie.Need-returns-2
+returns-2 c = (omega arith, omega arith, inr refl)
+
+pub larger-spec : {M : Type 1} → statement M
+larger-spec = tie.close (tie.spec returns returns-2)

@@ -1,0 +1,19 @@
+-- What feeding's steps leave.
+use mathlib.Core.Path.{_≡_}
+use mathlib.Core.List.{List}
+use Prim.Native.Nat.{ℕ, _+_, _/_, _%_, _<_, _≤_}
+use lib.Ieee.{Float}
+use lib.ListN.{length}
+use Rattle.rules.specs.Bits.{row}
+use Rattle.rules.specs.Pieces.{stateBytes, seen, cellIn, fedCell}
+
+-- the largest of some bytes, 0 of none: no byte is above it, and nothing smaller is so
+pub record Largest (l : List ℕ) (r : ℕ) : Type 0 where
+  pub above : (i : ℕ) → i < length l → row l i ≤ r
+  pub least : (b : ℕ) → ((i : ℕ) → i < length l → row l i ≤ b) → r ≤ b
+
+-- a state once a piece has been put in
+pub record Put (f s : List Float) (before after : List ℕ) : Type 0 where
+  pub high : row after 0 ≡ (seen before + length f) / 256
+  pub low : row after 1 ≡ (seen before + length f) % 256
+  pub cells : (c : ℕ) → 2 + c < stateBytes → cellIn after c ≡ fedCell (seen before) f s (cellIn before) c
