@@ -14,10 +14,12 @@ use Rattle.rules.specs.Profile.{inRange}
 use Rattle.rules.specs.Answers.{isNumber, isReason}
 use Rattle.rules.specs.Block.{early, Answered, Delivered, reason, judged, packetPart}
 use Rattle.rules.specs.Block.{checkRight, reservedRight, decidedData}
+use Rattle.rules.specs.Pieces.{asking}
 use Rattle.rules.specs.Demands.{D1}
 use Rattle.rules.specs.declared.Profile.{Profile}
 use Rattle.rules.specs.declared.Receipt.{Receipt}
 use Rattle.profile.proofs.RoundTrip.{read-number, write-told}
+use Rattle.receiving.proofs.States.{feeding-number, asking-number}
 
 early-number : (P : Profile) (bytes firsts seconds cells : ℕ) → T (isNumber (early P bytes firsts seconds cells))
 early-number P bytes firsts seconds cells =
@@ -63,12 +65,13 @@ Told before after a =
     T (isNumber (a .number)) × ((p : ℕ) → p < 16 → T (isReason (row (a .reasons) p))) × (¬ (a .number ≡ 0) → after ≡ before)
 
 -- a refusal is silent, and else a judgement
-told : (P : Profile) (marks bytes firsts seconds cells : ℕ) (v : ℕ → ℕ) (before after : List ℕ) (a : Receipt)
-    → Answered P marks (early P bytes firsts seconds cells) v before after a
+told : (P : Profile) (marks n : ℕ) (v : ℕ → ℕ) (before after : List ℕ) (a : Receipt)
+    → T (isNumber n)
+    → Answered P marks n v before after a
     → Told before after a
-told P marks bytes firsts seconds cells v before after a r = go (ℕ-discrete (early P bytes firsts seconds cells) 0)
+told P marks n v before after a number r = go (ℕ-discrete n 0)
   where
-    go : Dec (early P bytes firsts seconds cells ≡ 0) → Told before after a
+    go : Dec (n ≡ 0) → Told before after a
     go (yes e) =
         let j = r .judged e in
         let d = delivered-number (j .delivered) in
@@ -76,14 +79,7 @@ told P marks bytes firsts seconds cells v before after a r = go (ℕ-discrete (e
     go (no ne) =
         let q = r .refused ne in
         let silent : (p : ℕ) → p < 16 → T (isReason (row (replicate 16 0) p)) = (λ p l. rw (getD-replicate {A = ℕ} 16 p 0 0 l) tt) in
-        subst (λ (b : Receipt). Told before after b) (sym (q .0)) (early-number P bytes firsts seconds cells, silent, λ z. q .1)
-
--- the numbers of hearing
-hear-number : (a b c : Bool) → T (isNumber (pick a 4 (pick b 7 (pick c 0 8))))
-hear-number true b c = tt
-hear-number false true c = tt
-hear-number false false true = tt
-hear-number false false false = tt
+        subst (λ (b : Receipt). Told before after b) (sym (q .0)) (number, silent, λ z. q .1)
 
 pub d1 : D1
 d1 =
@@ -94,12 +90,12 @@ d1 =
           let e : ℕ = early P (length d) (length f) (length s) 4096 in
           let good : T (isNumber e) = early-number P (length d) (length f) (length s) 4096 in
           (rw (r .answer) (symbol-number (eqb e 0) (ltb symbol (symbols (P .mode))) e good), r .kept);
-      receive = λ P marks f s before after a. told P marks (length before) (length f) (length s) (4096 * symbols (P .mode)) _ before after a;
-      hear = λ P symbol f s before after n r. (
-        rw (r .answer) (hear-number (not (inRange P)) (not (eqb (length f) 4096 && eqb (length s) 4096)) (ltb symbol (symbols (P .mode)))),
-        r .kept,
-      );
-      conclude = λ P marks bits before after a. told P marks (length before) 0 0 0 _ before after a;
+      receive = λ P marks f s before after a.
+          told P marks (early P (length before) (length f) (length s) (4096 * symbols (P .mode))) _ before after a
+          (early-number P (length before) (length f) (length s) (4096 * symbols (P .mode)));
+      feed = λ P f s before after n r. (rw (r .answer) (feeding-number P before (length f) (length s)), r .kept);
+      ask = λ P marks state before after a.
+          told P marks (asking P state (length before)) _ before after a (asking-number P state (length before));
       read = read-number;
       write = write-told;
     }

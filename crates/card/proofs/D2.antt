@@ -22,10 +22,11 @@ use Rattle.rules.specs.declared.Receipt.{Receipt}
 use Rattle.laws.specs.Holds.{holds-one}
 use Rattle.profile.proofs.RoundTrip.{writes, read-written, written-read}
 use Rattle.block.proofs.Passed.{early-right}
-use Rattle.receiving.proofs.BySymbol.{in-turn-received}
-use Rattle.card.proofs.OneAnswer.{one-answer, one-hearing}
+use Rattle.receiving.proofs.Fed.{feed-22, ask-22, takes, ask-reads, one-feeding}
+use Rattle.card.proofs.OneAnswer.{one-receipt, one-asking}
 use Rattle.card.proofs.Reading.{reads, nothing-accepted, own-cells}
 use Rattle.card.proofs.Place.{judges, reason-verdict, accepted}
+use Rattle.card.proofs.Cutting.{any-cutting}
 
 -- cells leave one pair of lists
 one-pair : (P : Profile) (d : List ℕ) (from n : ℕ) (f s f' s' : List Float) → Cells P d from n f s → Cells P d from n f' s' → (f ≡ f') × (s ≡ s')
@@ -110,14 +111,20 @@ d2 =
       one-symbol = λ P d symbol f s f' s' f'' s'' n m a b.
           one-sending P d symbol 1 (a .answer ∙ sym (b .answer)) (a .cells) (b .cells) (a .kept) (b .kept);
       reads = reads;
-      nothing-accepted = nothing-accepted;
+      nothing-accepted = λ P marks f s before after a. nothing-accepted P marks _ _ before after a;
       accepts = accepts;
       own-cells = λ P marks f s f' s' before after after' a a' x y alike. own-cells P marks f s f' s' before x y alike after after' a a';
-      one-receipt = λ P marks f s before after after' a b.
-          one-answer P marks before (length before) (length f) (length s) (4096 * symbols (P .mode)) _ after after' a b;
-      by-symbol = in-turn-received;
-      one-hearing = one-hearing;
-      one-conclusion = λ P marks bits before after after' a b. one-answer P marks before (length before) 0 0 0 _ after after' a b;
+      one-receipt = λ P marks f s before. one-receipt P marks before f s;
+      feed-22 = feed-22;
+      ask-22 = ask-22;
+      takes = takes;
+      any-cutting = any-cutting;
+      ask-reads = ask-reads;
+      ask-accepts = λ P marks f s state before after a h r t.
+          accepts P marks f s before after a (any-cutting P marks f s state before after a h (ask-reads P marks f s state before after a h r .0 t .2) r) t;
+      ask-nothing = λ P marks state before after a. nothing-accepted P marks _ _ before after a;
+      one-feeding = one-feeding;
+      one-asking = λ P marks state before. one-asking P marks before state;
       writes = writes;
       read-written = read-written;
       written-read = written-read;

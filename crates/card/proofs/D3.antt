@@ -13,16 +13,18 @@ use lib.Seq.{ext-getD}
 use Rattle.rules.specs.Bits.{row, differ}
 use Rattle.rules.specs.Packet.{packetBit}
 use Rattle.rules.specs.Outer.{isK, marked, Codeword, Agree}
-use Rattle.rules.specs.Slots.{packetBits, coded}
+use Rattle.rules.specs.Slots.{packetBits, symbols, coded}
 use Rattle.rules.specs.Profile.{inRange}
-use Rattle.rules.specs.Block.{packet, decidedData, byteOf, verdict, Delivered, Judged, decided, lostMask}
-use Rattle.rules.specs.Demands.{D3, heardInPlace, sentInPlace, Doubtful, Wrong, Lost, Members}
+use Rattle.rules.specs.Block.{packet, decidedData, byteOf, verdict, Delivered, Judged, ReceiveRule, decided, lostMask}
+use Rattle.rules.specs.Demands.{D3, heardInPlace, sentInPlace, Wrong, Lost, Members, Fair, BringsBack}
 use Rattle.rules.specs.declared.Profile.{Profile}
 use Rattle.rules.specs.declared.Receipt.{Receipt}
 use Rattle.outer.proofs.Roots.{k-range, rate as outer-rate, encoded-data, encoded-codeword}
 use Rattle.outer.proofs.Solve.{unique}
 use Rattle.turbo.proofs.Accepted.{accepted-coded, coded-accepted, accepted-bytes}
+use Rattle.receiving.proofs.Fed.{fed-left, ask-reads}
 use Rattle.card.proofs.Grid.{grid-heard}
+use Rattle.card.proofs.Cutting.{any-cutting}
 use Rattle.card.proofs.Few.{few-same}
 use Rattle.laws.specs.Mask.{mask-lt}
 use Rattle.block.proofs.Ranges.{ranges}
@@ -30,11 +32,6 @@ use Rattle.card.proofs.Mask.{mask-kept}
 use Rattle.card.proofs.Differ.{find}
 use Rattle.card.proofs.Members.{members-one, members-ones}
 use Rattle.card.proofs.Place.{judges, reason-verdict, reason-unmarked, part, reasonIn, part-place, accepted, sent-place}
-
--- a packet is marked, or has doubtful parts, or at most three bits decided wrongly
-abbrev Expected : Profile → ℕ → List ℕ → List Float → List Float → ℕ → Type 0
-Expected P marks d f s p =
-    (marked marks p ≡ 1) ⊎ (Doubtful P f s p ⊎ (differ (packetBits (P .mode)) (heardInPlace P f s p) (sentInPlace P d p) ≤ 3))
 
 -- ---- one packet
 
@@ -60,7 +57,7 @@ module _ (P : Profile) (d : List ℕ) (f s : List Float) (p : ℕ) where
       ∙ few-same (P .mode) e (packet (P .k) d p) (heardInPlace P f s p) (sentInPlace P d p)
       (λ k h q. sym (own k h) ∙ sent-part k h .1 q) few i l
 
-  module _ (marks : ℕ) (each : Expected P marks d f s p) where
+  module _ (marks : ℕ) (each : Fair P marks d f s p) where
     -- accepted only where it is whole
     accepted-whole : reasonIn P marks f s p ≡ 0 → Whole
     accepted-whole z = go each
@@ -71,7 +68,7 @@ module _ (P : Profile) (d : List ℕ) (f s : List Float) (p : ℕ) where
         plain : verdict (P .mode) (part P f s p) ≡ 0
         plain = sym (reason-verdict P marks f s p unmarked) ∙ z
 
-        go : Expected P marks d f s p → Whole
+        go : Fair P marks d f s p → Whole
         go (inl q) = absurd (unmarked q)
         go (inr (inl q)) = absurd (omega (arith, q .2, accepted P f s p .0 plain .2 (q .0) (q .1)))
         go (inr (inr few)) = few-whole plain few
@@ -129,7 +126,7 @@ delivers d (Delivered.noCodeword few j l none e) t fits all sent =
     ((λ h. absurd (none _ (sent j l .0) (sent j l .1))), λ h. absurd (omega arith))
 
 module _ (P : Profile) (d : List ℕ) (marks : ℕ) (f s : List Float) (before after : List ℕ) (a : Receipt) (t : T (inRange P))
-    (bytes : (i : ℕ) → row d i < 256) (each : (p : ℕ) → p < 16 → Expected P marks d f s p) (j : Judged P marks (decided P f s) before after a) where
+    (bytes : (i : ℕ) → row d i < 256) (each : (p : ℕ) → p < 16 → Fair P marks d f s p) (j : Judged P marks (decided P f s) before after a) where
   -- kept exactly where the reason is 0
   kept-reason : (p : ℕ) → p < 16 → (marked (a .lost) p ≡ 0) ↔ (reasonIn P marks f s p ≡ 0)
   kept-reason p l =
@@ -163,17 +160,33 @@ module _ (P : Profile) (d : List ℕ) (marks : ℕ) (f s : List Float) (before a
       → (ones (a .lost) ≤ 16 - P .k → (a .number ≡ 0) × (after ≡ d)) × (16 - P .k < ones (a .lost) → (a .number ≡ 9) × (after ≡ before))
   comes-back long = delivers d (j .delivered) (ranges P t .k) fits long (λ i l. (sent-word (P .k) d bytes i, agrees i l))
 
+brings-back : (P : Profile) (d : List ℕ) (marks : ℕ) (f s : List Float) (before after : List ℕ) (a : Receipt)
+    → T (inRange P)
+    → length d ≡ 122 * P .k
+    → ((i : ℕ) → row d i < 256)
+    → length before ≡ 122 * P .k
+    → length f ≡ 4096 * symbols (P .mode)
+    → length s ≡ 4096 * symbols (P .mode)
+    → ((p : ℕ) → p < 16 → Fair P marks d f s p)
+    → ReceiveRule P marks f s before after a
+    → BringsBack P marks d f s before after (a .lost) (a .number)
+brings-back P d marks f s before after a t long bytes room firsts seconds each r =
+    let j : Judged P marks (decided P f s) before after a = judges f s r t room firsts seconds in
+    let back = comes-back P d marks f s before after a t bytes each j long in
+    let many = as-many P d marks f s before after a t bytes each j in (
+      lost-set P d marks f s before after a t bytes each j,
+      lost-members P d marks f s before after a t bytes each j,
+      (λ c m few. back .0 (omega (arith, many c m))),
+      λ c m more. back .1 (omega (arith, many c m)),
+    )
+
 pub d3 : D3
 d3 =
     record {
       heard-as-sent = λ P d f s t c. grid-heard P d f s t c;
-      sent-and-received = λ P d marks f s before after a t long bytes room firsts seconds each r.
-          let j : Judged P marks (decided P f s) before after a = judges f s r t room firsts seconds in
-          let back = comes-back P d marks f s before after a t bytes each j long in
-          let many = as-many P d marks f s before after a t bytes each j in (
-            lost-set P d marks f s before after a t bytes each j,
-            lost-members P d marks f s before after a t bytes each j,
-            (λ c m few. back .0 (omega (arith, many c m))),
-            λ c m more. back .1 (omega (arith, many c m)),
-          );
+      sent-and-received = brings-back;
+      sent-and-asked = λ P d marks f s state before after a long bytes each h r t.
+          let q = ask-reads P marks f s state before after a h r .0 t in
+          brings-back P d marks f s before after a (q .0) long bytes (q .1) (q .2) (fed-left P h .seconds ∙ q .2) each
+          (any-cutting P marks f s state before after a h (q .2) r);
     }

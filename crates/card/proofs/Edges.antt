@@ -14,7 +14,8 @@ use Rattle.rules.specs.Slots.{packetBits, symbols}
 use Rattle.rules.specs.Points.{zeroPart, firstPart, secondPart}
 use Rattle.rules.specs.Profile.{inRange}
 use Rattle.rules.specs.Answers.{isReason, hasRead}
-use Rattle.rules.specs.Block.{Cells, sentCell, SendRule, SendSymbolRule, Accepted, ReceiveRule, ConcludeRule}
+use Rattle.rules.specs.Block.{Cells, sentCell, SendRule, SendSymbolRule, Accepted, ReceiveRule}
+use Rattle.rules.specs.Pieces.{FeedRule, AskRule, Fed}
 use Rattle.rules.specs.Demands.{bitInPlace, heardInPlace, sentInPlace, Doubtful, Lost, Members}
 use Rattle.rules.specs.declared.Profile.{Profile}
 use Rattle.rules.specs.declared.Receipt.{Receipt}
@@ -28,10 +29,29 @@ pub last-reason : (P : Profile) (marks : ℕ) (f s : List Float) (before after :
     → T (isReason (row (a .reasons) 15))
 last-reason P marks f s before after a r = d1 .receive P marks f s before after a r .1 15 (lit< tt)
 
-pub last-concluded : (P : Profile) (marks : ℕ) (bits before after : List ℕ) (a : Receipt)
-    → ConcludeRule P marks bits before after a
+pub last-asked : (P : Profile) (marks : ℕ) (state before after : List ℕ) (a : Receipt)
+    → AskRule P marks state before after a
     → T (isReason (row (a .reasons) 15))
-last-concluded P marks bits before after a r = d1 .conclude P marks bits before after a r .1 15 (lit< tt)
+last-asked P marks state before after a r = d1 .ask P marks state before after a r .1 15 (lit< tt)
+
+-- the piece that ends with the grid's last cell is taken, and one of a cell more is not
+pub to-the-end : (P : Profile) (f s f' s' : List Float) (before after : List ℕ) (n : ℕ)
+    → T (inRange P)
+    → Fed (FeedRule P) f s before
+    → FeedRule P f' s' before after n
+    → length f' ≡ length s'
+    → ((length f + length f' ≡ 4096 * symbols (P .mode)) → n ≡ 0) × ((length f + length f' ≡ 4096 * symbols (P .mode) + 1) → ¬ (n ≡ 0))
+to-the-end P f s f' s' before after n t h r e =
+    let iff = d2 .takes P f s f' s' before after n t h r in
+    ((λ q. iff .1 (e, omega arith)), λ q z. omega (arith, iff .0 z .1))
+
+-- with all cells but one the cells are not read
+pub one-cell-early : (P : Profile) (marks : ℕ) (f s : List Float) (state before after : List ℕ) (a : Receipt)
+    → Fed (FeedRule P) f s state
+    → AskRule P marks state before after a
+    → length f + 1 ≡ 4096 * symbols (P .mode)
+    → ¬ T (hasRead (a .number))
+one-cell-early P marks f s state before after a h r e t = omega (arith, d2 .ask-reads P marks f s state before after a h r .0 t .2)
 
 -- cell 4095 of the last symbol y is the rules'
 pub last-cell : (P : Profile) (d : List ℕ) (f s f' s' : List Float) (y : ℕ)

@@ -1,8 +1,8 @@
--- A call can't lawfully answer in two ways: what the rules of receiving and hearing leave is one answer.
+-- A call can't lawfully answer in two ways: what the rules of receiving and asking leave is one answer.
 use mathlib.Core.Path.{_≡_, refl, sym, ap, subst, _∙_}
 use mathlib.Core.List.{List}
 use Prim.Native.Nat.{ℕ, _+_, _-_, _*_, _/_, _%_, _^_, _<_}
-use native.Mathlib.Decide.{ℕ-discrete, decLt}
+use native.Mathlib.Decide.{ℕ-discrete}
 use native.Mathlib.Omega.{arith}
 use lib.Dec.{T}
 use lib.Ieee.{Float}
@@ -10,15 +10,17 @@ use lib.ListN.{length}
 use lib.Seq.{ext-getD}
 use Rattle.rules.specs.Bits.{row}
 use Rattle.rules.specs.Outer.{isK}
-use Rattle.rules.specs.Slots.{slotBits, slots, symbolOf}
+use Rattle.rules.specs.Slots.{symbols}
 use Rattle.rules.specs.Profile.{inRange}
-use Rattle.rules.specs.Block.{early, packetPart, decidedData, byteOf, lostMask, Delivered, Judged, Answered, HearRule}
+use Rattle.rules.specs.Block.{early, decided, packetPart, decidedData, byteOf, lostMask, Delivered, Judged, Answered, ReceiveRule}
+use Rattle.rules.specs.Pieces.{asking, AskRule}
 use Rattle.rules.specs.declared.Profile.{Profile}
 use Rattle.rules.specs.declared.Receipt.{Receipt}
 use Rattle.outer.proofs.Roots.{k-range, rate as outer-rate}
 use Rattle.outer.proofs.Solve.{unique}
 use Rattle.block.proofs.Ranges.{ranges}
 use Rattle.block.proofs.Passed.{right}
+use Rattle.receiving.proofs.States.{asking-0}
 use Rattle.laws.specs.Mask.{mask-lt}
 
 module _ {k lost : ℕ} {kept : ℕ → ℕ → ℕ} {before : List ℕ} (t : T (isK k)) (fits : lost < 2 ^ 16) where
@@ -73,45 +75,31 @@ module _ (P : Profile) (marks : ℕ) (before : List ℕ) where
       fits = subst (λ (l : ℕ). l < 2 ^ 16) (sym (x .lost-is)) (mask-lt (row (a .reasons)) 16)
 
   -- a refusal is silent, and else the same bits are judged
-  pub one-answer : (bytes firsts seconds cells : ℕ) (v : ℕ → ℕ) (after after' : List ℕ) (a b : Receipt)
-      → Answered P marks (early P bytes firsts seconds cells) v before after a
-      → Answered P marks (early P bytes firsts seconds cells) v before after' b
+  pub one-answer : (n : ℕ) → (n ≡ 0 → T (inRange P)) → (v : ℕ → ℕ) (after after' : List ℕ) (a b : Receipt)
+      → Answered P marks n v before after a
+      → Answered P marks n v before after' b
       → (a ≡ b) × (after ≡ after')
-  one-answer bytes firsts seconds cells v after after' a b x y = go (ℕ-discrete (early P bytes firsts seconds cells) 0)
+  one-answer n range v after after' a b x y = go (ℕ-discrete n 0)
     where
-      go : Dec (early P bytes firsts seconds cells ≡ 0) → (a ≡ b) × (after ≡ after')
-      go (yes e) = one-judgement v after after' a b (right P bytes firsts seconds cells e .range) (x .judged e) (y .judged e)
+      go : Dec (n ≡ 0) → (a ≡ b) × (after ≡ after')
+      go (yes e) = one-judgement v after after' a b (range e) (x .judged e) (y .judged e)
       go (no ne) =
           let p = x .refused ne in
           let q = y .refused ne in
           (p .0 ∙ sym (q .0), p .1 ∙ sym (q .1))
 
--- one answer to hearing, and the same bits: each is the symbol's own, another's or past the block
-pub one-hearing : (P : Profile) (symbol : ℕ) (f s : List Float) (before after after' : List ℕ) (n m : ℕ)
-    → HearRule P symbol f s before after n
-    → HearRule P symbol f s before after' m
-    → (n ≡ m) × (after ≡ after')
-one-hearing P symbol f s before after after' n m x y = (same, go (ℕ-discrete n 0))
-  where
-    same : n ≡ m
-    same = x .answer ∙ sym (y .answer)
+  -- receiving a whole grid, and asking for what was fed
+  pub one-receipt : (f s : List Float) (after after' : List ℕ) (a b : Receipt)
+      → ReceiveRule P marks f s before after a
+      → ReceiveRule P marks f s before after' b
+      → (a ≡ b) × (after ≡ after')
+  one-receipt f s after after' a b =
+      one-answer (early P (length before) (length f) (length s) (4096 * symbols (P .mode)))
+      (λ e. right P (length before) (length f) (length s) (4096 * symbols (P .mode)) e .range) (decided P f s) after after' a b
 
-    w : ℕ
-    w = slotBits (P .mode)
-
-    bit : n ≡ 0 → (g : ℕ) → Dec (g < w * slots (P .mode)) → Dec (symbolOf (g / w) ≡ symbol) → row after g ≡ row after' g
-    bit z g (no past) own = x .past z g (omega arith) ∙ sym (y .past (sym same ∙ z) g (omega arith))
-    bit z g (yes lt) (yes own) =
-        let place : w * (g / w) + g % w ≡ g = omega arith in
-        ap (row after) (sym place) ∙ x .own z (g / w) (g % w) (omega arith) (omega arith) own
-        ∙ sym (y .own (sym same ∙ z) (g / w) (g % w) (omega arith) (omega arith) own) ∙ ap (row after') place
-    bit z g (yes lt) (no other) =
-        let place : w * (g / w) + g % w ≡ g = omega arith in
-        ap (row after) (sym place) ∙ x .others z (g / w) (g % w) (omega arith) (omega arith) other
-        ∙ sym (y .others (sym same ∙ z) (g / w) (g % w) (omega arith) (omega arith) other) ∙ ap (row after') place
-
-    go : Dec (n ≡ 0) → after ≡ after'
-    go (yes z) =
-        ext-getD 0 after after' (x .long ∙ sym (y .long))
-        (λ g l. bit z g (decLt g (w * slots (P .mode))) (ℕ-discrete (symbolOf (g / w)) symbol))
-    go (no ne) = x .kept ne ∙ sym (y .kept (λ e. ne (same ∙ e)))
+  pub one-asking : (state after after' : List ℕ) (a b : Receipt)
+      → AskRule P marks state before after a
+      → AskRule P marks state before after' b
+      → (a ≡ b) × (after ≡ after')
+  one-asking state after after' a b =
+      one-answer (asking P state (length before)) (λ e. asking-0 P state (length before) .0 e .0) _ after after' a b

@@ -13,17 +13,13 @@ use Rattle.rules.specs.Bits.{pick}
 use Rattle.rules.specs.Slots.{slotBits, slots, symbols}
 use Rattle.rules.specs.Profile.{inRange}
 use Rattle.rules.specs.Answers.{hasRead}
-use Rattle.rules.specs.Block.{early, heard, decided, scrambler, unscrambled, silence, Accepted, Delivered, ReceiveRule}
+use Rattle.rules.specs.Block.{early, heard, decided, scrambler, unscrambled, silence, Accepted, Answered, ReceiveRule}
 use Rattle.rules.specs.declared.Profile.{Profile}
 use Rattle.rules.specs.declared.Receipt.{Receipt}
 use Rattle.block.proofs.Passed.{early-right}
 use Rattle.receiving.proofs.Judgement.{judged-same}
-use Rattle.card.proofs.OneAnswer.{one-answer}
-
-delivered-read : {k lost : ℕ} {kept : ℕ → ℕ → ℕ} {before after : List ℕ} {n : ℕ} → Delivered k lost kept before after n → T (hasRead n)
-delivered-read (Delivered.whole few w agree long is) = tt
-delivered-read (Delivered.tooMany many e) = tt
-delivered-read (Delivered.noCodeword few j l none e) = tt
+use Rattle.receiving.proofs.Fed.{delivered-read}
+use Rattle.card.proofs.OneAnswer.{one-receipt}
 
 -- of the numbers that come first only 0 is one at which the cells are read
 early-read : (P : Profile) (bytes firsts seconds cells : ℕ) → T (hasRead (early P bytes firsts seconds cells)) → early P bytes firsts seconds cells ≡ 0
@@ -35,6 +31,15 @@ early-read P bytes firsts seconds cells =
     go false true c t = absurd t
     go false false true t = absurd t
     go false false false t = refl
+
+-- where no cells are read, nothing is said of the packets
+pub nothing-accepted : (P : Profile) (marks n : ℕ) (v : ℕ → ℕ) (before after : List ℕ) (a : Receipt)
+    → Answered P marks n v before after a
+    → ¬ T (hasRead (a .number))
+    → (a .lost ≡ 0) × (a .reasons ≡ replicate 16 0) × ((p : ℕ) → ¬ Accepted a p)
+nothing-accepted P marks n v before after a r ne =
+    let e = r .refused (λ z. ne (delivered-read (r .judged z .delivered))) .0 in
+    (ap (λ (b : Receipt). b .lost) e, ap (λ (b : Receipt). b .reasons) e, λ p x. ne (x .0))
 
 module _ (P : Profile) (marks : ℕ) (f s : List Float) (before after : List ℕ) (a : Receipt) (r : ReceiveRule P marks f s before after a) where
   first : ℕ
@@ -56,12 +61,6 @@ module _ (P : Profile) (marks : ℕ) (f s : List Float) (before after : List ℕ
   reads =
       let iff = early-right P (length before) (length f) (length s) (4096 * symbols (P .mode)) in
       ((λ t. iff .0 (read-first t)), λ q. delivered-read (r .judged (iff .1 q) .delivered))
-
-  pub nothing-accepted : ¬ T (hasRead (a .number)) → (a .lost ≡ 0) × (a .reasons ≡ replicate 16 0) × ((p : ℕ) → ¬ Accepted a p)
-  unfolding first
-  nothing-accepted ne =
-      let e = r .refused (λ z. ne (delivered-read (r .judged z .delivered))) .0 in
-      (ap (λ (b : Receipt). b .lost) e, ap (λ (b : Receipt). b .reasons) e, λ p x. ne (x .0))
 
 module _ (P : Profile) (marks : ℕ) (f s f' s' : List Float) (before : List ℕ) (firsts : length f ≡ length f') (seconds : length s ≡ length s')
     (alike : (t i : ℕ) → t < slots (P .mode) → i < slotBits (P .mode) → heard f s t i ≡ heard f' s' t i) where
@@ -89,6 +88,4 @@ module _ (P : Profile) (marks : ℕ) (f s f' s' : List Float) (before : List ℕ
       → ReceiveRule P marks f s before after a
       → ReceiveRule P marks f' s' before after' a'
       → (a ≡ a') × (after ≡ after')
-  own-cells after after' a a' x y =
-      one-answer P marks before (length before) (length f') (length s') (4096 * symbols (P .mode)) (decided P f' s') after after' a a'
-      (received-as after a x) y
+  own-cells after after' a a' x y = one-receipt P marks before f' s' after after' a a' (received-as after a x) y

@@ -16,7 +16,7 @@ use Rattle.rules.specs.declared.Receipt.{Receipt}
 use Rattle.outer.proofs.Answers.{one-parity}
 use Rattle.card.proofs.D1.{d1}
 use Rattle.card.proofs.D2.{d2}
-use Rattle.flo.specs.Calls.{AfterReading}
+use Rattle.flo.specs.Calls.{AfterReading, Unread}
 use Rattle.flo.specs.Demands.{CallsTold, CallsOne}
 
 -- by cases: reading is refused, or the call's rule holds of the profile that was read
@@ -48,6 +48,23 @@ both-reading profile Goal x y unread read = go (ℕ-discrete (reading profile .n
 read-told : (profile : List ℕ) (n : ℕ) → n ≡ reading profile .number → T (isNumber n)
 read-told profile n e = subst (λ (m : ℕ). T (isNumber m)) (sym e) (d1 .read profile .0)
 
+-- a receive or a question with an unread profile
+unread-told : (profile before after : List ℕ) (lost : ℕ) (reasons : List ℕ) (n : ℕ)
+    → Unread before after lost reasons n (reading profile .number)
+    → T (isNumber n) × ((p : ℕ) → p < 16 → T (isReason (row reasons p))) × (¬ (n ≡ 0) → after ≡ before)
+unread-told profile before after lost reasons n q =
+    (read-told profile n (q .0), (λ p l. rw (q .2, getD-replicate {A = ℕ} 16 p 0 0 l) tt), λ _. q .3)
+
+-- one receipt, field by field
+fields : {a b : Receipt} {after after' : List ℕ} → (a ≡ b) × (after ≡ after')
+    → (a .number ≡ b .number) × (a .lost ≡ b .lost) × (a .reasons ≡ b .reasons) × (after ≡ after')
+fields e = (
+  ap (λ (x : Receipt). x .number) (e .0),
+  ap (λ (x : Receipt). x .lost) (e .0),
+  ap (λ (x : Receipt). x .reasons) (e .0),
+  e .1,
+)
+
 parity-number : (b c : Bool) → T (isNumber (pick b 4 (pick c 6 0)))
 parity-number true c = tt
 parity-number false true = tt
@@ -61,12 +78,13 @@ calls-told =
       send-symbol = λ profile d symbol f s f' s' n r.
           by-reading profile _ r (λ q. (read-told profile n (q .0), λ _. (q .1, q .2))) (d1 .send-symbol _ d symbol f s f' s' n);
       receive = λ profile marks f s before after lost reasons n r.
-          by-reading profile _ r
-          (λ q.
-          let none : (p : ℕ) → p < 16 → T (isReason (row reasons p))
-          = (λ p l. rw (q .2, getD-replicate {A = ℕ} 16 p 0 0 l) tt) in
-          (read-told profile n (q .0), none, λ _. q .3))
+          by-reading profile _ r (unread-told profile before after lost reasons n)
           (d1 .receive _ marks f s before after (record { number = n; lost = lost; reasons = reasons }));
+      feed = λ profile f s before after n r.
+          by-reading profile _ r (λ q. (read-told profile n (q .0), λ _. q .1)) (d1 .feed _ f s before after n);
+      ask = λ profile marks state before after lost reasons n r.
+          by-reading profile _ r (unread-told profile before after lost reasons n)
+          (d1 .ask _ marks state before after (record { number = n; lost = lost; reasons = reasons }));
       read-profile = λ profile masks level mode k seeds n r. read-told profile n (r .number);
       write-profile = λ masks level mode k seeds profile count n r.
           subst (λ (w : Writing). T (isNumber (w .number))) (r .answer) (d1 .write _ .0);
@@ -83,13 +101,12 @@ calls-one =
           (d2 .one-symbol _ d symbol f s f' s' f'' s'' n m);
       receive = λ profile marks f s before after after' lost lost' reasons reasons' n m x y.
           both-reading profile _ x y (λ p q. (p .0 ∙ sym (q .0), p .1 ∙ sym (q .1), p .2 ∙ sym (q .2), p .3 ∙ sym (q .3)))
-          (λ p q.
-          let e = d2 .one-receipt _ marks f s before after after' _ _ p q in (
-            ap (λ (a : Receipt). a .number) (e .0),
-            ap (λ (a : Receipt). a .lost) (e .0),
-            ap (λ (a : Receipt). a .reasons) (e .0),
-            e .1,
-          ));
+          (λ p q. fields (d2 .one-receipt _ marks f s before after after' _ _ p q));
+      feed = λ profile f s before after after' n m x y.
+          both-reading profile _ x y (λ p q. (p .0 ∙ sym (q .0), p .1 ∙ sym (q .1))) (d2 .one-feeding _ f s before after after' n m);
+      ask = λ profile marks state before after after' lost lost' reasons reasons' n m x y.
+          both-reading profile _ x y (λ p q. (p .0 ∙ sym (q .0), p .1 ∙ sym (q .1), p .2 ∙ sym (q .2), p .3 ∙ sym (q .3)))
+          (λ p q. fields (d2 .one-asking _ marks state before after after' _ _ p q));
       read-profile = λ profile masks masks' level level' mode mode' k k' seeds seeds' n m x y.
           let e = sym (x .value) ∙ y .value in (
             x .number ∙ sym (y .number),

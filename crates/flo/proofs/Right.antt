@@ -1,21 +1,26 @@
 -- The C calls keep the second and the third sentence: what the card's calls do with a profile, they do with the profile that the bytes say.
-use mathlib.Core.Path.{_≡_, sym, _∙_, ap, subst}
+use mathlib.Core.Path.{_≡_, refl, sym, _∙_, ap, subst}
 use mathlib.Core.List.{List}
+use mathlib.Core.Logic.{_↔_}
 use Prim.Native.Nat.{ℕ, _<_}
 use native.Mathlib.Decide.{ℕ-discrete}
+use native.Mathlib.Omega.{arith}
 use lib.Dec.{T}
+use lib.Ieee.{Float}
 use lib.ListN.{take}
 use Rattle.rules.specs.Bits.{row}
 use Rattle.rules.specs.Answers.{hasRead}
 use Rattle.rules.specs.Profile.{inRange, reading, writing}
+use Rattle.rules.specs.Pieces.{FeedRule, Fed}
+use Rattle.rules.specs.Demands as Said
 use Rattle.rules.specs.declared.Profile.{Profile}
 use Rattle.rules.specs.declared.Reading.{Reading}
 use Rattle.rules.specs.declared.Writing.{Writing}
-use Rattle.profile.proofs.RoundTrip.{unread}
+use Rattle.profile.proofs.RoundTrip.{read-most, unread}
 use Rattle.card.proofs.D2.{d2}
 use Rattle.card.proofs.D3.{d3}
-use Rattle.flo.specs.Calls.{AfterReading}
-use Rattle.flo.specs.Demands.{said, CallsRight, CallsBring}
+use Rattle.flo.specs.Calls.{AfterReading, FloFeed}
+use Rattle.flo.specs.Demands.{said, LeftBy, CallsRight, CallsBring}
 use Rattle.flo.proofs.Demands.{by-reading}
 
 -- bytes that read well say a profile in range
@@ -35,6 +40,42 @@ passed profile {Rule = Rule} r none = go (ℕ-discrete (reading profile .number)
 -- no refusal of reading is a number at which cells are read
 not-read : (profile : List ℕ) (n : ℕ) → T (hasRead n) → n ≡ reading profile .number → reading profile .number ≡ 0
 not-read profile n t e = unread profile (subst (λ (m : ℕ). T (hasRead m)) e t)
+
+-- ---- pieces fed with the bytes are fed with the profile that they say
+
+-- the number is no refusal of reading
+fed-passed : (profile : List ℕ) {f s : List Float} {before after : List ℕ} {n : ℕ} → FloFeed profile f s before after n → n ≡ 0
+    → FeedRule (said profile) f s before after n × (reading profile .number ≡ 0)
+fed-passed profile r z = passed profile r (λ q. sym (q .0) ∙ z)
+
+fed-said : (profile : List ℕ) {f s : List Float} {state : List ℕ} → Fed (FloFeed profile) f s state → Fed (FeedRule (said profile)) f s state
+fed-said profile Fed.new = Fed.new
+fed-said profile (Fed.piece f s f' s' before after h r) =
+    Fed.piece f s f' s' before after (fed-said profile h) (fed-passed profile r refl .0)
+
+-- and back, where the bytes read well
+fed-read : (profile : List ℕ) {f s : List Float} {state : List ℕ} → reading profile .number ≡ 0 → Fed (FeedRule (said profile)) f s state
+    → Fed (FloFeed profile) f s state
+fed-read profile z Fed.new = Fed.new
+fed-read profile z (Fed.piece f s f' s' before after h r) =
+    Fed.piece f s f' s' before after (fed-read profile z h) (record { unread = λ ne. absurd (ne z); read = λ _. r })
+
+-- no number of reading is 22
+not-22 : (profile : List ℕ) (n : ℕ) → n ≡ 22 → n ≡ reading profile .number → reading profile .number ≡ 0
+not-22 profile n e q = absurd (omega (arith, read-most profile))
+
+-- 22 over the bytes, from 22 over the profile
+left-said : (profile state : List ℕ) (n : ℕ)
+    → ((i : ℕ) → row profile i < 256)
+    → (n ≡ 22 → reading profile .number ≡ 0)
+    → (reading profile .number ≡ 0 → (n ≡ 22) ↔ (T (inRange (said profile)) × ¬ Said.LeftBy (said profile) state))
+    → (n ≡ 22) ↔ ((reading profile .number ≡ 0) × ¬ LeftBy profile state)
+left-said profile state n bytes read iff = (
+  (λ e.
+      let z = read e in
+      (z, λ l. iff z .0 e .1 (l .0, l .1, fed-said profile (l .2)))),
+  λ q. iff (q .0) .1 (ranged profile bytes (q .0), λ l. q .1 (l .0, l .1, fed-read profile (q .0) (l .2))),
+)
 
 pub calls-right : CallsRight
 calls-right =
@@ -62,6 +103,30 @@ calls-right =
           let w = passed profile r (λ q. not-read profile n t (q .0)) in
           let iff = d2 .accepts _ marks f s before after _ (w .0) t p l u in
           ((λ e. iff .0 (t, e)), λ q. iff .1 q .1);
+      feed-22 = λ profile f s before after n bytes state r.
+          left-said profile before n bytes (λ e. passed profile r (λ q. not-22 profile n e (q .0)) .1)
+          (λ z. d2 .feed-22 _ f s before after n state (r .read z));
+      ask-22 = λ profile marks state before after lost reasons n bytes numbers r.
+          left-said profile state n bytes (λ e. passed profile r (λ q. not-22 profile n e (q .0)) .1)
+          (λ z. d2 .ask-22 _ marks state before after _ numbers (r .read z));
+      takes = λ profile f s f' s' before after n bytes z h r.
+          d2 .takes _ f s f' s' before after n (ranged profile bytes z) (fed-said profile h) (r .read z);
+      any-cutting = λ profile marks f s state before after lost reasons n h all r.
+          record { unread = r .unread; read = λ z. d2 .any-cutting _ marks f s state before after _ (fed-said profile h) all (r .read z) };
+      ask-reads = λ profile marks f s state before after lost reasons n bytes h r. (
+        (λ t.
+            let w = passed profile r (λ q. not-read profile n t (q .0)) in
+            let x = d2 .ask-reads _ marks f s state before after _ (fed-said profile h) (w .0) .0 t in
+            (w .1, x .1, x .2)),
+        λ q.
+            d2 .ask-reads _ marks f s state before after _ (fed-said profile h) (r .read (q .0)) .1 (ranged profile bytes (q .0), q .1, q .2),
+      );
+      ask-nothing = λ profile marks state before after lost reasons n r ne.
+          by-reading profile _ r (λ q. (q .1, q .2)) (λ q. let x = d2 .ask-nothing _ marks state before after _ q ne in (x .0, x .1));
+      ask-accepts = λ profile marks f s state before after lost reasons n h r t p l u.
+          let w = passed profile r (λ q. not-read profile n t (q .0)) in
+          let iff = d2 .ask-accepts _ marks f s state before after _ (fed-said profile h) (w .0) t p l u in
+          ((λ e. iff .0 (t, e)), λ q. iff .1 q .1);
       read-written = λ masks level mode k seeds profile count n S r z.
           let e = ap (λ (w : Writing). reading (take (w .count) (w .bytes))) (sym (r .answer))
           ∙ d2 .read-written _ S (ap (λ (w : Writing). w .number) (r .answer) ∙ z) in
@@ -75,4 +140,7 @@ calls-bring =
     record {
       sent-and-received = λ profile d marks f s before after lost reasons n bytes q long numbers each r.
           d3 .sent-and-received _ d marks f s before after _ (ranged profile bytes (q .0)) long numbers (q .1) (q .2) (q .3) each (r .read (q .0));
+      sent-and-asked = λ profile d marks f s state before after lost reasons n long numbers each h r t.
+          d3 .sent-and-asked _ d marks f s state before after _ long numbers each (fed-said profile h)
+          (passed profile r (λ q. not-read profile n t (q .0)) .0) t;
     }

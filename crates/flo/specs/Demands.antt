@@ -1,22 +1,22 @@
--- The founder's three sentences for the C calls, over the profile's bytes. Lent memory is the cell lists of a send, the data room of a receive and the
--- block of flo_parity; what comes back through result pointers is an answer. flo/proofs/Demands.antt and Right.antt prove these.
+-- The founder's three sentences for the C calls, over the profile's bytes. Lent memory is the cell lists of a send, the data room of a receive or a
+-- question, the state of flo_feed and the block of flo_parity; what comes back through result pointers is an answer. flo/proofs/Demands.antt and Right.antt prove these.
 use mathlib.Core.Path.{_≡_}
 use mathlib.Core.List.{List, _++_}
-use mathlib.Core.Logic.{_⊎_, _↔_}
-use Prim.Native.Nat.{ℕ, _-_, _*_, _<_, _≤_}
-use lib.Count.{ones}
+use mathlib.Core.Logic.{_↔_}
+use Prim.Native.Nat.{ℕ, _+_, _-_, _*_, _<_, _≤_}
 use lib.Dec.{T}
 use lib.Ieee.{Float}
 use lib.ListN.{length, take, replicate}
-use Rattle.rules.specs.Bits.{row, differ}
+use Rattle.rules.specs.Bits.{row}
 use Rattle.rules.specs.Outer.{marked}
-use Rattle.rules.specs.Slots.{packetBits, symbols}
+use Rattle.rules.specs.Slots.{symbols}
 use Rattle.rules.specs.Profile.{Shape, reading, largest}
 use Rattle.rules.specs.Answers.{isNumber, isReason, hasRead}
 use Rattle.rules.specs.Block.{Cells}
-use Rattle.rules.specs.Demands.{heardInPlace, sentInPlace, SomePacket, Doubtful, Lost, Members}
+use Rattle.rules.specs.Pieces.{Fed}
+use Rattle.rules.specs.Demands.{SomePacket, Fair, BringsBack}
 use Rattle.rules.specs.declared.Profile.{Profile}
-use Rattle.flo.specs.Calls.{FloSend, FloSendSymbol, FloReceive, FloReadProfile, FloWriteProfile, FloParity}
+use Rattle.flo.specs.Calls.{FloSend, FloSendSymbol, FloReceive, FloFeed, FloAsk, FloReadProfile, FloWriteProfile, FloParity}
 
 -- ---- 1. The number is in the table, and a refusal leaves the lent memory holding what it held
 
@@ -29,6 +29,12 @@ pub record CallsTold : Type 0 where
       → T (isNumber n) × (¬ (n ≡ 0) → (f' ≡ f) × (s' ≡ s))
   pub receive : (profile : List ℕ) (marks : ℕ) (f s : List Float) (before after : List ℕ) (lost : ℕ) (reasons : List ℕ) (n : ℕ)
       → FloReceive profile marks f s before after lost reasons n
+      → T (isNumber n) × ((p : ℕ) → p < 16 → T (isReason (row reasons p))) × (¬ (n ≡ 0) → after ≡ before)
+  pub feed : (profile : List ℕ) (f s : List Float) (before after : List ℕ) (n : ℕ)
+      → FloFeed profile f s before after n
+      → T (isNumber n) × (¬ (n ≡ 0) → after ≡ before)
+  pub ask : (profile : List ℕ) (marks : ℕ) (state before after : List ℕ) (lost : ℕ) (reasons : List ℕ) (n : ℕ)
+      → FloAsk profile marks state before after lost reasons n
       → T (isNumber n) × ((p : ℕ) → p < 16 → T (isReason (row reasons p))) × (¬ (n ≡ 0) → after ≡ before)
   pub read-profile : (profile masks : List ℕ) (level : Float) (mode k : ℕ) (seeds : List ℕ) (n : ℕ)
       → FloReadProfile profile masks level mode k seeds n
@@ -53,6 +59,14 @@ pub record CallsOne : Type 0 where
       → FloReceive profile marks f s before after lost reasons n
       → FloReceive profile marks f s before after' lost' reasons' m
       → (n ≡ m) × (lost ≡ lost') × (reasons ≡ reasons') × (after ≡ after')
+  pub feed : (profile : List ℕ) (f s : List Float) (before after after' : List ℕ) (n m : ℕ)
+      → FloFeed profile f s before after n
+      → FloFeed profile f s before after' m
+      → (n ≡ m) × (after ≡ after')
+  pub ask : (profile : List ℕ) (marks : ℕ) (state before after after' : List ℕ) (lost lost' : ℕ) (reasons reasons' : List ℕ) (n m : ℕ)
+      → FloAsk profile marks state before after lost reasons n
+      → FloAsk profile marks state before after' lost' reasons' m
+      → (n ≡ m) × (lost ≡ lost') × (reasons ≡ reasons') × (after ≡ after')
   pub read-profile : (profile masks masks' : List ℕ) (level level' : Float) (mode mode' k k' : ℕ) (seeds seeds' : List ℕ) (n m : ℕ)
       → FloReadProfile profile masks level mode k seeds n
       → FloReadProfile profile masks' level' mode' k' seeds' m
@@ -75,6 +89,10 @@ abbrev pub Fitting : List ℕ → ℕ → ℕ → ℕ → Type 0
 Fitting profile bytes firsts seconds =
     (reading profile .number ≡ 0) × (bytes ≡ 122 * said profile .k)
     × (firsts ≡ 4096 * symbols (said profile .mode)) × (seconds ≡ 4096 * symbols (said profile .mode))
+
+-- some pieces, fed with these bytes of a profile from the new state on, leave the state
+abbrev pub LeftBy : List ℕ → List ℕ → Type 0
+LeftBy profile state = (f : List Float) × (s : List Float) × Fed (FloFeed profile) f s state
 
 -- The cells are those of the rules; a packet is accepted exactly when some packet has the bits; a profile is read and written by the same rules
 pub record CallsRight : Type 0 where
@@ -105,6 +123,48 @@ pub record CallsRight : Type 0 where
       → p < 16
       → marked marks p ≡ 0
       → (row reasons p ≡ 0) ↔ SomePacket (said profile) f s p
+  -- 22 exactly where no pieces, fed with these bytes from the new state on, leave the state
+  pub feed-22 : (profile : List ℕ) (f s : List Float) (before after : List ℕ) (n : ℕ)
+      → ((i : ℕ) → row profile i < 256)
+      → ((i : ℕ) → row before i < 256)
+      → FloFeed profile f s before after n
+      → (n ≡ 22) ↔ ((reading profile .number ≡ 0) × ¬ LeftBy profile before)
+  pub ask-22 : (profile : List ℕ) (marks : ℕ) (state before after : List ℕ) (lost : ℕ) (reasons : List ℕ) (n : ℕ)
+      → ((i : ℕ) → row profile i < 256)
+      → ((i : ℕ) → row state i < 256)
+      → FloAsk profile marks state before after lost reasons n
+      → (n ≡ 22) ↔ ((reading profile .number ≡ 0) × ¬ LeftBy profile state)
+  -- after pieces that were fed, every piece is taken that has lists of one length and ends within the grid, and no other
+  pub takes : (profile : List ℕ) (f s f' s' : List Float) (before after : List ℕ) (n : ℕ)
+      → ((i : ℕ) → row profile i < 256)
+      → reading profile .number ≡ 0
+      → Fed (FloFeed profile) f s before
+      → FloFeed profile f' s' before after n
+      → (n ≡ 0) ↔ ((length f' ≡ length s') × (length f + length f' ≤ 4096 * symbols (said profile .mode)))
+  -- however a grid was cut into pieces, to ask at the end is to receive it whole
+  pub any-cutting : (profile : List ℕ) (marks : ℕ) (f s : List Float) (state before after : List ℕ) (lost : ℕ) (reasons : List ℕ) (n : ℕ)
+      → Fed (FloFeed profile) f s state
+      → length f ≡ 4096 * symbols (said profile .mode)
+      → FloAsk profile marks state before after lost reasons n
+      → FloReceive profile marks f s before after lost reasons n
+  pub ask-reads : (profile : List ℕ) (marks : ℕ) (f s : List Float) (state before after : List ℕ) (lost : ℕ) (reasons : List ℕ) (n : ℕ)
+      → ((i : ℕ) → row profile i < 256)
+      → Fed (FloFeed profile) f s state
+      → FloAsk profile marks state before after lost reasons n
+      → T (hasRead n)
+      ↔ ((reading profile .number ≡ 0) × (length before ≡ 122 * said profile .k) × (length f ≡ 4096 * symbols (said profile .mode)))
+  pub ask-nothing : (profile : List ℕ) (marks : ℕ) (state before after : List ℕ) (lost : ℕ) (reasons : List ℕ) (n : ℕ)
+      → FloAsk profile marks state before after lost reasons n
+      → ¬ T (hasRead n)
+      → (lost ≡ 0) × (reasons ≡ replicate 16 0)
+  pub ask-accepts : (profile : List ℕ) (marks : ℕ) (f s : List Float) (state before after : List ℕ) (lost : ℕ) (reasons : List ℕ) (n : ℕ)
+      → Fed (FloFeed profile) f s state
+      → FloAsk profile marks state before after lost reasons n
+      → T (hasRead n)
+      → (p : ℕ)
+      → p < 16
+      → marked marks p ≡ 0
+      → (row reasons p ≡ 0) ↔ SomePacket (said profile) f s p
   pub read-written : (masks : List ℕ) (level : Float) (mode k : ℕ) (seeds profile : List ℕ) (count n : ℕ)
       → Shape (record { masks = masks; level = level; mode = mode; k = k; seeds = seeds })
       → FloWriteProfile masks level mode k seeds profile count n
@@ -124,13 +184,14 @@ pub record CallsBring : Type 0 where
       → Fitting profile (length before) (length f) (length s)
       → length d ≡ 122 * said profile .k
       → ((i : ℕ) → row d i < 256)
-      → ((p : ℕ)
-      → p < 16
-      → (marked marks p ≡ 1)
-      ⊎ (Doubtful (said profile) f s p
-      ⊎ (differ (packetBits (said profile .mode)) (heardInPlace (said profile) f s p) (sentInPlace (said profile) d p) ≤ 3)))
+      → ((p : ℕ) → p < 16 → Fair (said profile) marks d f s p)
       → FloReceive profile marks f s before after lost reasons n
-      → ((p : ℕ) → p < 16 → (marked lost p ≡ 1) ↔ Lost (said profile) marks d f s p)
-      × Members (Lost (said profile) marks d f s) 16 (ones lost)
-      × ((c : ℕ) → Members (Lost (said profile) marks d f s) 16 c → c ≤ 16 - said profile .k → (n ≡ 0) × (after ≡ d))
-      × ((c : ℕ) → Members (Lost (said profile) marks d f s) 16 c → 16 - said profile .k < c → (n ≡ 9) × (after ≡ before))
+      → BringsBack (said profile) marks d f s before after lost n
+  pub sent-and-asked : (profile d : List ℕ) (marks : ℕ) (f s : List Float) (state before after : List ℕ) (lost : ℕ) (reasons : List ℕ) (n : ℕ)
+      → length d ≡ 122 * said profile .k
+      → ((i : ℕ) → row d i < 256)
+      → ((p : ℕ) → p < 16 → Fair (said profile) marks d f s p)
+      → Fed (FloFeed profile) f s state
+      → FloAsk profile marks state before after lost reasons n
+      → T (hasRead n)
+      → BringsBack (said profile) marks d f s before after lost n

@@ -1,5 +1,5 @@
 // The C interface, thin: include/flo.h says each call's rule in words.
-ghost use Rattle.flo.specs.Calls.{FloSend, FloSendSymbol, FloReceive, FloReadProfile, FloWriteProfile, FloParity};
+ghost use Rattle.flo.specs.Calls.{FloSend, FloSendSymbol, FloReceive, FloFeed, FloAsk, FloReadProfile, FloWriteProfile, FloParity};
 use rules::Profile;
 
 #[no_mangle]
@@ -57,6 +57,43 @@ pub extern "C" fn flo_receive(
     }
     let p = a.profile;
     let receipt = receiving::receive(p, marks, firsts, seconds, data);
+    *lost = receipt.lost;
+    let each = receipt.reasons;
+    *reasons = each;
+    receipt.number
+}
+
+#[no_mangle]
+pub extern "C" fn flo_feed(profile: &[u8], state: &mut [u8], firsts: &[f32], seconds: &[f32]) -> u32
+    ensures { λ r. ⌜ FloFeed (now (profile .entry)) (now (firsts .entry)) (now (seconds .entry)) (now (state .entry)) (now (state .exit)) r ⌝ }
+{
+    let a = profile::read(profile);
+    if a.number != 0 {
+        return a.number;
+    }
+    let p = a.profile;
+    receiving::feed(p, state, firsts, seconds)
+}
+
+#[no_mangle]
+pub extern "C" fn flo_ask(
+    profile: &[u8],
+    marks: u16,
+    state: &[u8],
+    data: &mut [u8],
+    lost: &mut u16,
+    reasons: &mut [u8; 16],
+) -> u32
+    ensures { λ r. ⌜ FloAsk (now (profile .entry)) marks (now (state .entry)) (now («data» .entry)) (now («data» .exit)) (now (lost .exit)) (now (reasons .exit)) r ⌝ }
+{
+    let a = profile::read(profile);
+    if a.number != 0 {
+        *lost = 0;
+        *reasons = [0u8; 16];
+        return a.number;
+    }
+    let p = a.profile;
+    let receipt = receiving::ask(p, marks, state, data);
     *lost = receipt.lost;
     let each = receipt.reasons;
     *reasons = each;

@@ -4,9 +4,9 @@ use mathlib.Core.Path.{_≡_, refl, ap, _∙_}
 use mathlib.Core.Bool.{Bool, true, false}
 use mathlib.Core.List.{List, _++_}
 use mathlib.Core.Logic.{_↔_}
-use Prim.Native.Nat.{ℕ, _+_, _-_, _*_, _<_}
+use Prim.Native.Nat.{ℕ, _+_, _-_, _*_, _<_, _≤_}
 use native.Mathlib.Omega.{arith}
-use lib.Dec.{T}
+use lib.Dec.{T, lit≤}
 use lib.ListN.{length, take, replicate}
 use lib.Seq.{take-append-seam}
 use Rattle.rules.specs.Answers.{isNumber, hasRead}
@@ -71,6 +71,11 @@ pub read-number : (s : List ℕ) → T (isNumber (reading s .number)) × (¬ (re
 read-number s =
     table-answer (λ (r : Reading). T (isNumber (r .number)) × (¬ (r .number ≡ 0) → r .profile ≡ blank))
     (λ p. (tt, λ ne. absurd (ne refl))) (tt, λ ne. refl) (tt, λ ne. refl) (tt, λ ne. refl) (tt, λ ne. refl) (tt, λ ne. refl) fields blank s
+
+-- reading answers 0 to 5
+pub read-most : (s : List ℕ) → reading s .number ≤ 5
+read-most s =
+    table-answer (λ (r : Reading). r .number ≤ 5) (λ p. lit≤ tt) (lit≤ tt) (lit≤ tt) (lit≤ tt) (lit≤ tt) (lit≤ tt) fields blank s
 
 -- a refusal of reading is no number at which cells are read
 pub unread : (s : List ℕ) → T (hasRead (reading s .number)) → reading s .number ≡ 0

@@ -88,7 +88,7 @@ made-at (suc n) g zero d h = refl
 made-at (suc n) g (suc i) d h = made-at n (λ k. g (suc k)) i d (le-of-suc-le-suc h)
 
 -- where the outer code has spoken, the cells were read
-delivered-read : {k lost : ℕ} {kept : ℕ → ℕ → ℕ} {before after : List ℕ} {n : ℕ} → Delivered k lost kept before after n → T (hasRead n)
+pub delivered-read : {k lost : ℕ} {kept : ℕ → ℕ → ℕ} {before after : List ℕ} {n : ℕ} → Delivered k lost kept before after n → T (hasRead n)
 delivered-read (Delivered.whole few w agree long is) = tt
 delivered-read (Delivered.tooMany many e) = tt
 delivered-read (Delivered.noCodeword few j l none e) = tt
