@@ -1,7 +1,8 @@
-//! Document 01's printed examples and the ends of Req 01's order, held against the plain program before it is used as a measure.
+//! Document 01's printed examples, the ends of Req 01's order and a state of Req 02 worked out by hand, held against the plain program
+//! before it is used as a measure.
 
 use crate::check_tools::Tally;
-use crate::plain::{self, Encoder, Profile, CELLS, PACKET};
+use crate::plain::{self, Came, Encoder, Profile, CELLS, PACKET};
 
 /// Compares one example and counts a difference when it doesn't come out.
 fn example<T: PartialEq + std::fmt::Debug>(tally: &mut Tally, name: &str, came: T, printed: T) {
@@ -61,8 +62,23 @@ fn report(tally: &mut Tally) {
     example(tally, "the report", answer.reasons, [0, 0, 11, 0, 0, 11, 0, 0, 0, 11, 0, 0, 0, 0, 0, 0]);
 }
 
+/// A state after two pieces in mode 1, and what more fits into it.
+fn state(tally: &mut Tally) {
+    let profile = Profile { mode: 1, ..Profile::ZERO };
+    let mut came = Came::nothing();
+    came.feed(&profile, &[0.5, -1.0, -0.0], &[f32::INFINITY, 1e-45, -2.0]);
+    came.feed(&profile, &[f32::NAN, f32::NEG_INFINITY], &[0.0, -1e-45]);
+    example(tally, "a state's bytes", came.state()[..8].to_vec(), vec![0, 5, 0, 1, 5, 8, 4, 0]);
+    let one = [1.0; 5 * CELLS];
+    example(tally, "a cell too many", came.feed(&profile, &one[4..], &one[4..]), 16);
+    example(tally, "all that lack", came.feed(&profile, &one[5..], &one[5..]), 0);
+    example(tally, "a full state's head", came.state()[..8].to_vec(), vec![0x50, 0, 0, 1, 5, 8, 4, 0]);
+    example(tally, "a state's length", came.state().len(), 28674);
+}
+
 pub fn run(tally: &mut Tally) {
     codes(tally);
     cells(tally);
     report(tally);
+    state(tally);
 }
