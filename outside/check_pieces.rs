@@ -21,7 +21,8 @@ fn lent(random: &mut Random, bytes: &[u8]) -> Room<u8> {
     room
 }
 
-/// Feeds the library with a piece; `plain` is the plain program's number, `right` the state that it has then.
+/// Feeds the library with a piece; `plain` is the plain program's number, `right` the state that it has then. Afterwards the library's state is
+/// that one too, so that a mistake is counted where it is made and not in all that follows.
 fn compare_feed(tally: &mut Tally, label: &str, profile: &[u8], state: &mut Room<u8>, piece: Piece, plain: u32, right: &[u8]) {
     let before = state.clone();
     let library = library::feed(profile, state.lent(), piece.0, piece.1);
@@ -32,6 +33,7 @@ fn compare_feed(tally: &mut Tally, label: &str, profile: &[u8], state: &mut Room
         ("a refusal changed the state", library == 0 || state.same(&before)),
     ];
     tally.case(Call::Feed, label, library, plain, &tests);
+    *state = own;
 }
 
 /// Asks the library; `ask` asks the plain program. Returns the library's answer and the data that it wrote.
@@ -54,6 +56,7 @@ fn compare_ask(
     if judged {
         tally.reasons(&plain.reasons);
     }
+    *state = before;
     (library, data)
 }
 
