@@ -149,11 +149,11 @@ impl<'a> Feeding<'a> {
             let (mut whole, mut own) = (room.clone(), room);
             let received = library::receive(&self.bytes, marks, &self.firsts, &self.seconds, whole.lent());
             let plain = plain::receive_bytes(&self.bytes, marks, &self.firsts, &self.seconds, own.lent());
-            let tests = [
-                ("not flo_receive's answer for the whole grid", asked == received && data.same(&whole)),
-                ("not the plain program's answer for the whole grid", asked == plain && data.same(&own)),
-            ];
-            tally.case(Call::Ask, "the whole grid", asked.number, plain.number, &tests);
+            for (other, room, name) in [(received, whole, "flo_receive"), (plain, own, "the plain program")] {
+                if asked != other || !data.same(&room) {
+                    tally.difference(&format!("ask, all cells fed: not the answer of {name} for the whole grid"));
+                }
+            }
         }
     }
 }
