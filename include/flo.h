@@ -5,13 +5,15 @@
    that is passed.
 
    What a call writes is of two kinds:
-   - Answers, which come back through the result pointers: `lost` and `reasons`; `masks`, `level`, `mode`, `k` and `seeds` of flo_read_profile;
-     `profile` and `count` of flo_write_profile. They are written at every return, whatever they held before: on a refusal with zeros, except
-     that flo_receive still says at 9 and 10 which packets are lost and why.
-   - Lent memory: the cell lists of a send, the `data` of flo_receive, the `block` of flo_parity. On a refusal it keeps what it held.
+   - Answers, which come back through the result pointers: `lost` and `reasons` of flo_receive and flo_ask; `masks`, `level`, `mode`, `k` and
+     `seeds` of flo_read_profile; `profile` and `count` of flo_write_profile. They are written at every return, whatever they held before: on a
+     refusal with zeros, except that flo_receive and flo_ask still say at 9 and 10 which packets are lost and why.
+   - Lent memory: the cell lists of a send, the `state` of flo_feed, the `data` of flo_receive and flo_ask, the `block` of flo_parity. On a
+     refusal it keeps what it held.
 
-   A call keeps nothing for the next one, and the library has no memory of its own and asks for none. Calls may run on several threads at once, as
-   long as none writes what another one reads or writes. The library calls memcpy, memmove and memset and nothing else. */
+   A call keeps nothing for the next one (what flo_feed has to remember is in the caller's state), and the library has no memory of its own and asks
+   for none. Calls may run on several threads at once, as long as none writes what another one reads or writes. The library calls memcpy, memmove and
+   memset and nothing else. */
 #ifndef FLO_H
 #define FLO_H
 
@@ -33,12 +35,13 @@ extern "C" {
 #define FLO_MASKS 8                               /* scrambling masks of a profile */
 #define FLO_SEEDS 48                              /* places for seeds in a profile as a value; mode 1 uses 32, and the others are zero */
 #define FLO_MOST_PROFILE 245                      /* bytes of the longest profile; the other length is 181, in mode 1 */
+#define FLO_STATE 28674                           /* bytes of flo_feed's state, in both modes: 2, and one for each cell of the largest grid */
 
 /* A thread with a stack of this many bytes can make every call. As measured on x86-64, a call takes at most 120,000 of them (docs/MEASURED.md). */
 #define FLO_STACK 262144
 
-/* Every call answers one of these numbers: the first of 1 to 5 that reading the profile finds, then the first of the call's own, in rising order.
-   Only FLO_DONE is a success. */
+/* Every call answers one of these numbers: the first of 1 to 5 that reading the profile finds, then the first that fits of the call's own, in the
+   order in which the call's comment names them, else 0. Only FLO_DONE is a success. */
 enum flo_number {
     FLO_DONE = 0,
     FLO_CUT_IN_FIELD = 1,    /* the profile ends inside a field */
@@ -47,13 +50,16 @@ enum flo_number {
     FLO_OUT_OF_RANGE = 4,    /* a value is outside its range */
     FLO_FIELD_MISSING = 5,   /* the profile ends between fields with one due */
     FLO_DATA_LENGTH = 6,     /* the data isn't k * 122 bytes long (flo_parity: the block isn't 1952) */
-    FLO_CELLS_LENGTH = 7,    /* a cell list isn't 4096 x symbols long, or 4096 for a single symbol */
+    FLO_CELLS_LENGTH = 7,    /* a cell list isn't 4096 x symbols long, or 4096 for a single symbol (flo_feed: the two lists differ in length) */
     FLO_NO_SUCH_SYMBOL = 8,  /* the symbol's number is outside the grid */
     FLO_TOO_MANY_LOST = 9,   /* more than 16 - k packets are lost */
-    FLO_NO_CODEWORD = 10     /* few enough are lost, but some accepted packet can't be right: in a column no codeword agrees */
+    FLO_NO_CODEWORD = 10,    /* few enough are lost, but some accepted packet can't be right: in a column no codeword agrees */
+    FLO_TOO_MANY_CELLS = 16, /* the piece reaches past the grid's end */
+    FLO_CELLS_MISSING = 17,  /* the grid's last cell hasn't come yet */
+    FLO_NO_SUCH_STATE = 22   /* no feeding with this profile leaves such a state */
 };
 
-/* Why flo_receive holds a packet for lost: the first that fits. */
+/* Why flo_receive and flo_ask hold a packet for lost: the first that fits. */
 enum flo_reason {
     FLO_ACCEPTED = 0,        /* it isn't lost */
     FLO_MARKED = 11,         /* the caller marked it */
@@ -75,6 +81,32 @@ uint32_t flo_send_symbol(const uint8_t *profile, size_t profile_length, const ui
    lost is set, and reasons[p] isn't 0, exactly when packet p is lost; all zero at every number but 0, 9 and 10. */
 uint32_t flo_receive(const uint8_t *profile, size_t profile_length, uint16_t marks, const float *firsts, size_t firsts_length,
                      const float *seconds, size_t seconds_length, uint8_t *data, size_t data_length, uint16_t *lost, uint8_t reasons[16]);
+
+/* A grid whose cells come in pieces. The state is the caller's: FLO_STATE bytes, all zero before a grid's first piece. Each flo_feed takes the cells
+   that come next, in the grid's order (symbol after symbol), however many there are: one, none, the whole grid. Once the last has come, flo_ask
+   answers what flo_receive would for the whole grid, however it was cut.
+
+       memset(state, 0, FLO_STATE);
+       for each piece: flo_feed(profile, profile_length, state, FLO_STATE, firsts, count, seconds, count);
+       flo_ask(profile, profile_length, marks, state, FLO_STATE, data, data_length, &lost, reasons);
+
+   A refused piece isn't taken, not even in part: put right, it can be fed again. Asking changes nothing: one may ask early, which is answered with
+   FLO_CELLS_MISSING, then feed on, and ask again, with other marks too.
+
+   What the bytes mean is fixed, so that a state can be copied, stored, and used on any machine:
+   - Bytes 0 and 1: how many cells have come, high byte first.
+   - Byte 2 + c: cell c of the grid, where cell i of symbol y is 4096 * y + i. Zero before it has come, then d1 + 3 * d2, where d1 is the decision of
+     its first part and d2 that of its second: 0 above zero, 1 below zero, 2 doubtful (zero of either sign, NaN). Cells that carry nothing have
+     theirs too. In mode 1 the bytes after its 5 symbols stay zero.
+   Every other state, and one of another length, is FLO_NO_SUCH_STATE. Of the profile, the state depends on the mode alone. */
+
+/* Takes a piece, which may be empty: 0, 1 to 5, 22, 7, 16. At 0 its cells are in the state, at every other number the state is as it was. */
+uint32_t flo_feed(const uint8_t *profile, size_t profile_length, uint8_t *state, size_t state_length, const float *firsts, size_t firsts_length,
+                  const float *seconds, size_t seconds_length);
+
+/* Receives the grid that was fed: 0, 1 to 5, 22, 6, 17, 9, 10. Marks, data, lost and reasons are as for flo_receive. */
+uint32_t flo_ask(const uint8_t *profile, size_t profile_length, uint16_t marks, const uint8_t *state, size_t state_length, uint8_t *data,
+                 size_t data_length, uint16_t *lost, uint8_t reasons[16]);
 
 /* Reads a profile: 0, 1 to 5. On a refusal all numbers are zero and the level is +0.0. */
 uint32_t flo_read_profile(const uint8_t *profile, size_t profile_length, uint32_t masks[8], float *level, uint8_t *mode, uint8_t *k,

@@ -1,12 +1,12 @@
-//! The benchmark: time per block of the C library and of the plain Rust program, side by side in one run.
-//! `run-bench` compiles and runs it.
+//! The benchmark: time per block of the C library and of the plain Rust program, side by side in one run; then the library's time for a grid
+//! that is fed in pieces, beside its own time for the whole grid. `run-bench` compiles and runs it.
 
 #[allow(dead_code)]
 mod library;
 #[allow(dead_code)]
 mod plain;
 
-use plain::{Profile, BLOCK, CELLS, PACKET};
+use plain::{Profile, BLOCK, CELLS, PACKET, STATE};
 use std::hint::black_box;
 use std::time::{Duration, Instant};
 
@@ -25,6 +25,7 @@ struct Bench {
     seconds: Vec<f32>,
     room: Vec<u8>,
     block: Vec<u8>,
+    state: Vec<u8>,
 }
 
 impl Bench {
@@ -42,7 +43,8 @@ impl Bench {
         let (_, bytes, count) = plain::write_profile(&profile);
         let block = plain::block_of(k, &data).as_flattened().to_vec();
         assert_eq!(block.len(), BLOCK);
-        Bench { profile: bytes[..count].to_vec(), k, r: profile.r(), room: data.clone(), data, firsts, seconds, block }
+        let (profile, r) = (bytes[..count].to_vec(), profile.r());
+        Bench { profile, k, r, room: data.clone(), data, firsts, seconds, block, state: vec![0; STATE] }
     }
 }
 
@@ -110,6 +112,53 @@ fn time(mode: u8, k: u8, job: &Job) -> (f64, f64) {
     (median(library), median(plain))
 }
 
+/// Zeroes the state, feeds the grid in pieces of N cells, and asks once.
+fn fed<const N: usize>(b: &mut Bench) -> u32 {
+    b.state.fill(0);
+    for (firsts, seconds) in b.firsts.chunks(N).zip(b.seconds.chunks(N)) {
+        let number = library::feed(&b.profile, &mut b.state, firsts, seconds);
+        if number != 0 {
+            return number;
+        }
+    }
+    library::ask(&b.profile, 0, &mut b.state, &mut b.room).number
+}
+
+/// A grid received whole, and in pieces: a name, the calls, and in every how many rounds it is timed, since small pieces take long.
+const CUTTINGS: [(&str, fn(&mut Bench) -> u32, usize); 5] = [
+    ("receive, none lost", |b| library::receive(&b.profile, 0, &b.firsts, &b.seconds, &mut b.room).number, 1),
+    ("fed whole", fed::<{ 7 * CELLS }>, 1),
+    ("fed 4096 by 4096", fed::<CELLS>, 1),
+    ("fed 64 by 64", fed::<64>, 8),
+    ("fed cell by cell", fed::<1>, 40),
+];
+
+/// Times all cuttings in turn: microseconds a grid.
+fn time_cuttings(mode: u8, k: u8) -> [f64; CUTTINGS.len()] {
+    let mut benches = CUTTINGS.map(|_| Bench::new(mode, k));
+    let mut times = CUTTINGS.map(|_| Vec::new());
+    let many: Vec<u32> = (0..CUTTINGS.len()).map(|i| repeats(&mut benches[i], CUTTINGS[i].1)).collect();
+    for round in 0..SAMPLES {
+        for i in (0..CUTTINGS.len()).filter(|&i| round % CUTTINGS[i].2 == 0) {
+            times[i].push(sample(&mut benches[i], CUTTINGS[i].1, many[i]));
+        }
+    }
+    times.map(median)
+}
+
+fn print_cuttings() {
+    println!();
+    println!("A grid in pieces, library alone: microseconds a grid, zeroing the state and asking once included, and as multiples of receive.");
+    println!("Samples in turn as above; of the smaller pieces only in every {}th and {}th turn.", CUTTINGS[3].2, CUTTINGS[4].2);
+    println!("{:<6}{:<5}{:<20}{:>10}{:>10}", "mode", "K", "", "time", "times");
+    for mode in [0, 1] {
+        let times = time_cuttings(mode, 12);
+        for (cutting, time) in CUTTINGS.iter().zip(times) {
+            println!("{mode:<6}{:<5}{:<20}{time:>10.1}{:>10.2}", 12, cutting.0, time / times[0]);
+        }
+    }
+}
+
 fn main() {
     println!("Time per block in microseconds, median of {SAMPLES} samples of {} or more, both programs in turn.", SAMPLE.as_micros());
     println!("Buffers, the same for both: each program has its own, reused from call to call and not cleared in between, so they");
@@ -121,4 +170,5 @@ fn main() {
             println!("{mode:<6}{k:<5}{:<20}{library:>10.1}{plain:>10.1}{:>8.2}", job.0, library / plain);
         }
     }
+    print_cuttings();
 }

@@ -2,6 +2,7 @@
 //! `run-check` compiles and runs it. An argument is another seed for the random numbers.
 
 mod check_examples;
+mod check_pieces;
 mod check_profile;
 mod check_receive;
 mod check_send;
@@ -20,6 +21,7 @@ fn main() {
     check_profile::run(&mut random, &mut tally);
     check_send::run(&mut random, &mut tally);
     check_receive::run(&mut random, &mut tally);
+    check_pieces::run(&mut random, &mut tally);
     if !tally.report() {
         std::process::exit(1);
     }

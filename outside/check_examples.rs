@@ -1,12 +1,13 @@
-//! Document 01's printed examples and the ends of Req 01's order, held against the plain program before it is used as a measure.
+//! Document 01's printed examples, the ends of Req 01's order, and states of Req 02 worked out by hand and by flo.py, held against the plain
+//! program before it is used as a measure.
 
 use crate::check_tools::Tally;
-use crate::plain::{self, Encoder, Profile, CELLS, PACKET};
+use crate::plain::{self, Came, Encoder, Profile, CELLS, PACKET};
 
 /// Compares one example and counts a difference when it doesn't come out.
 fn example<T: PartialEq + std::fmt::Debug>(tally: &mut Tally, name: &str, came: T, printed: T) {
     if came != printed {
-        tally.difference(&format!("the documents' {name}: the plain program gives {came:?}, not {printed:?}"));
+        tally.difference(&format!("the example {name}: the plain program gives {came:?}, not {printed:?}"));
     }
 }
 
@@ -61,8 +62,40 @@ fn report(tally: &mut Tally) {
     example(tally, "the report", answer.reasons, [0, 0, 11, 0, 0, 11, 0, 0, 0, 11, 0, 0, 0, 0, 0, 0]);
 }
 
+/// A state after two pieces in mode 1, and what more fits into it.
+fn state(tally: &mut Tally) {
+    let profile = Profile { mode: 1, ..Profile::ZERO };
+    let mut came = Came::nothing();
+    came.feed(&profile, &[0.5, -1.0, -0.0], &[f32::INFINITY, 1e-45, -2.0]);
+    came.feed(&profile, &[f32::NAN, f32::NEG_INFINITY], &[0.0, -1e-45]);
+    example(tally, "a state's bytes", came.state()[..8].to_vec(), vec![0, 5, 0, 1, 5, 8, 4, 0]);
+    let one = [1.0; 5 * CELLS];
+    example(tally, "a cell too many", came.feed(&profile, &one[4..], &one[4..]), 16);
+    example(tally, "all that lack", came.feed(&profile, &one[5..], &one[5..]), 0);
+    example(tally, "a full state's head", came.state()[..8].to_vec(), vec![0x50, 0, 0, 1, 5, 8, 4, 0]);
+    example(tally, "a state's length", came.state().len(), 28674);
+}
+
+/// States after the first cells of a grid: the check words that `python3 outside/flo.py state` prints.
+fn states(tally: &mut Tally) {
+    let mut profile = Profile { level: 1.5, mode: 1, k: 8, ..Profile::ZERO };
+    (0..8).for_each(|i| profile.masks[i] = 37 * i as u32 + 1);
+    (0..32).for_each(|t| profile.seeds[t] = 977 * t as u32 + 1);
+    let data: Vec<u8> = (0..profile.data_length()).map(|i| ((i * i * 7 + i * 13 + 5) % 251) as u8).collect();
+    let (mut firsts, mut seconds) = (vec![0.0; 5 * CELLS], vec![0.0; 5 * CELLS]);
+    plain::send(&profile, &data, &mut firsts, &mut seconds);
+    let word = |count: usize| {
+        let mut came = Came::nothing();
+        came.feed(&profile, &firsts[..count], &seconds[..count]);
+        plain::check_word(&came.state()[..4300])
+    };
+    example(tally, "states by flo.py", [0, 50, 255, 256, 4200].map(word), [0x8495, 0x089B, 0xB1FD, 0xE857, 0xE5FF]);
+}
+
 pub fn run(tally: &mut Tally) {
     codes(tally);
     cells(tally);
     report(tally);
+    state(tally);
+    states(tally);
 }

@@ -18,13 +18,13 @@ const DOUBTS: [u32; 8] = [0, 0x8000_0000, 0, 0x8000_0000, 0x7FC0_0000, 0xFFC0_00
 const STRENGTHS: [u32; 6] = [0x7F80_0000, 0x7F7F_FFFF, 0x0080_0000, 0x007F_FFFF, 0x0000_0001, 0x3F80_0000];
 
 /// What a receive is given, and what is known beforehand of its answer.
-struct Receiving {
+pub struct Receiving {
     label: &'static str,
-    profile: Profile,
+    pub profile: Profile,
     bytes: Vec<u8>,
-    marks: u16,
-    firsts: Vec<f32>,
-    seconds: Vec<f32>,
+    pub marks: u16,
+    pub firsts: Vec<f32>,
+    pub seconds: Vec<f32>,
     room: Room<u8>,
     /// What each packet's reason must be, when it is known and the call gets as far as judging.
     reasons: [Option<u8>; PACKETS],
@@ -228,14 +228,19 @@ fn random_faults(random: &mut Random, r: usize) -> [Vec<u8>; PACKETS] {
     faults
 }
 
+/// A grid of any block, with any faults.
+pub fn any_grid(random: &mut Random, mode: u8, k: u8) -> Receiving {
+    let profile = random_profile(random, mode, k);
+    let (data, block) = random_block(random, &profile);
+    let faults = random_faults(random, profile.r());
+    let mut receiving = Receiving::new(random, "faults", profile, &block, &faults);
+    receiving.data = data;
+    receiving
+}
+
 fn fault_cases(random: &mut Random, tally: &mut Tally, mode: u8, k: u8) {
     for _ in 0..600 {
-        let profile = random_profile(random, mode, k);
-        let (data, block) = random_block(random, &profile);
-        let faults = random_faults(random, profile.r());
-        let mut receiving = Receiving::new(random, "faults", profile, &block, &faults);
-        receiving.data = data;
-        receiving.compare(tally);
+        any_grid(random, mode, k).compare(tally);
     }
 }
 

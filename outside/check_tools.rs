@@ -104,16 +104,23 @@ pub enum Call {
     Send,
     SendSymbol,
     Receive,
+    Feed,
+    Ask,
     ReadProfile,
     WriteProfile,
     Parity,
 }
 
+/// All numbers, as columns of the tally.
+const NUMBERS: [usize; 14] = [0, 1, 2, 3, 4, 5, 6, 7, 8, 9, 10, 16, 17, 22];
+
 /// Each call's name and the numbers that can arise in it.
-const CALLS: [(&str, &[usize]); 6] = [
+const CALLS: [(&str, &[usize]); 8] = [
     ("send", &[0, 1, 2, 3, 4, 5, 6, 7]),
     ("send_symbol", &[0, 1, 2, 3, 4, 5, 6, 7, 8]),
     ("receive", &[0, 1, 2, 3, 4, 5, 6, 7, 9, 10]),
+    ("feed", &[0, 1, 2, 3, 4, 5, 7, 16, 22]),
+    ("ask", &[0, 1, 2, 3, 4, 5, 6, 9, 10, 17, 22]),
     ("read_profile", &[0, 1, 2, 3, 4, 5]),
     ("write_profile", &[0, 4]),
     ("parity", &[0, 4, 6]),
@@ -123,7 +130,7 @@ const SHOWN: usize = 10;
 
 #[derive(Default)]
 pub struct Tally {
-    numbers: [[u64; 11]; CALLS.len()],
+    numbers: [[u64; 23]; CALLS.len()],
     reasons: [u64; 16],
     cases: u64,
     differences: u64,
@@ -154,9 +161,9 @@ impl Tally {
 
     /// Prints the counts and the last line. True when nothing differed and everything that can arise has arisen.
     pub fn report(&mut self) -> bool {
-        println!("number        {}", (0..11).map(|n| format!("{n:>7}")).collect::<String>());
+        println!("number        {}", NUMBERS.map(|n| format!("{n:>7}")).concat());
         for (c, (name, _)) in CALLS.iter().enumerate() {
-            println!("{name:<14}{}", self.numbers[c].map(|n| format!("{n:>7}")).concat());
+            println!("{name:<14}{}", NUMBERS.map(|n| format!("{:>7}", self.numbers[c][n])).concat());
         }
         let reasons = REASONS.map(|reason| format!(" {reason}: {}", self.reasons[reason]));
         println!("reasons      {}", reasons.join(","));

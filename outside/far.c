@@ -81,6 +81,17 @@ u32 flo_receive(const u8 *profile, u64 p, u16 marks, const float *firsts, u64 f,
     return carry(RECEIVE, (u64[]){ marks, 0, 0 }, lists, 6);
 }
 
+u32 flo_feed(const u8 *profile, u64 p, u8 *state, u64 n, const float *firsts, u64 f, const float *seconds, u64 s) {
+    const struct list lists[] = { { profile, p, 0 }, { state, n, 1 }, { firsts, 4 * f, 0 }, { seconds, 4 * s, 0 } };
+    return carry(FEED, (u64[]){ 0, 0, 0 }, lists, 4);
+}
+
+/* The state comes back too, though it is only read: the tests look whether it is as it was. */
+u32 flo_ask(const u8 *profile, u64 p, u16 marks, const u8 *state, u64 n, u8 *data, u64 d, u16 *lost, u8 *reasons) {
+    const struct list lists[] = { { profile, p, 0 }, { state, n, 1 }, { data, d, 1 }, { lost, 2, 1 }, { reasons, 16, 1 } };
+    return carry(ASK, (u64[]){ marks, 0, 0 }, lists, 5);
+}
+
 u32 flo_read_profile(const u8 *profile, u64 p, u32 *masks, float *level, u8 *mode, u8 *k, u32 *seeds) {
     const struct list lists[] = { { profile, p, 0 }, { masks, 32, 1 }, { level, 4, 1 }, { mode, 1, 1 }, { k, 1, 1 }, { seeds, 192, 1 } };
     return carry(READ_PROFILE, (u64[]){ 0, 0, 0 }, lists, 6);

@@ -1,4 +1,4 @@
-"""An independent sender and receiver, written from the text of document 01 and of document 02's Req 01 alone and in another way than the crates:
+"""An independent sender and receiver, written from the text of document 01 and of document 02's Req 01 and 02 alone and in another way than the crates:
 whole lists, integers as polynomials, no tables shared with them. The vectors under outside/ and crates/*/stdout that say so come from here.
 
     python3 outside/flo.py NAME      prints the vectors of that name (the names are at the end of this file)
@@ -396,7 +396,18 @@ def place_lines():
     order = places()
     yield "places", word(order, 9), *order[:8], *order[-3:]
 
-NAMES = {"vectors": vectors, "profiles": profiles, "profiles-stdin": profiles_stdin, "places": place_lines}
+# ---- states of Req 02 by themselves: after the first cells of a grid, the check word of the first 4300 bytes; outside/check_examples.rs has them too
+
+def state(cells):
+    return [len(cells) // 256, len(cells) % 256] + [decision(a) + 3 * decision(b) for a, b in cells] + [0] * (28672 - len(cells))
+
+def state_lines():
+    profile = [37 * i + 1 for i in range(8)], 1.5, 1, 8, [977 * t + 1 for t in range(32)]
+    cells = sum(send(profile, formula(976)), [])
+    for count in 0, 50, 255, 256, 4200:
+        yield "state", count, word(state(cells[:count])[:4300], 8)
+
+NAMES = {"vectors": vectors, "profiles": profiles, "profiles-stdin": profiles_stdin, "places": place_lines, "state": state_lines}
 
 if __name__ == "__main__":
     if len(sys.argv) != 2 or sys.argv[1] not in NAMES:

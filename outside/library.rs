@@ -19,6 +19,14 @@ extern "C" {
         firsts: *const f32, firsts_length: usize, seconds: *const f32, seconds_length: usize,
         data: *mut u8, data_length: usize, lost: *mut u16, reasons: *mut u8,
     ) -> u32;
+    fn flo_feed(
+        profile: *const u8, profile_length: usize, state: *mut u8, state_length: usize,
+        firsts: *const f32, firsts_length: usize, seconds: *const f32, seconds_length: usize,
+    ) -> u32;
+    fn flo_ask(
+        profile: *const u8, profile_length: usize, marks: u16, state: *const u8, state_length: usize,
+        data: *mut u8, data_length: usize, lost: *mut u16, reasons: *mut u8,
+    ) -> u32;
     fn flo_read_profile(
         profile: *const u8, profile_length: usize,
         masks: *mut u32, level: *mut f32, mode: *mut u8, k: *mut u8, seeds: *mut u32,
@@ -69,6 +77,31 @@ pub fn receive(profile: &[u8], marks: u16, firsts: &[f32], seconds: &[f32], data
     let number = unsafe {
         flo_receive(
             profile.as_ptr(), profile.len(), marks, firsts.as_ptr(), firsts.len(), seconds.as_ptr(), seconds.len(),
+            data.as_mut_ptr(), data.len(), &mut lost, reasons.as_mut_ptr(),
+        )
+    };
+    guard(&reasons[PACKETS..], PATTERN, "reasons");
+    Received { number, lost, reasons: reasons[..PACKETS].try_into().unwrap() }
+}
+
+pub fn feed(profile: &[u8], state: &mut [u8], firsts: &[f32], seconds: &[f32]) -> u32 {
+    // SAFETY: every pointer comes with the length of its own slice.
+    unsafe {
+        flo_feed(
+            profile.as_ptr(), profile.len(), state.as_mut_ptr(), state.len(),
+            firsts.as_ptr(), firsts.len(), seconds.as_ptr(), seconds.len(),
+        )
+    }
+}
+
+/// The library may only read the state; it is lent as one that can be written, so that a library that writes it is found out.
+pub fn ask(profile: &[u8], marks: u16, state: &mut [u8], data: &mut [u8]) -> Received {
+    let mut lost = 0xA5A5;
+    let mut reasons = [PATTERN; PACKETS + GUARD];
+    // SAFETY: every pointer comes with the length of its own slice; `lost` and the 16 reasons are live.
+    let number = unsafe {
+        flo_ask(
+            profile.as_ptr(), profile.len(), marks, state.as_mut_ptr(), state.len(),
             data.as_mut_ptr(), data.len(), &mut lost, reasons.as_mut_ptr(),
         )
     };

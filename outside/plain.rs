@@ -1,4 +1,4 @@
-//! An independent sender and receiver, written from the text of document 01 and of document 02's Req 01 alone and in the ordinary
+//! An independent sender and receiver, written from the text of document 01 and of document 02's Req 01 and 02 alone and in the ordinary
 //! way: log tables, precomputed addresses and places, one bit per byte. The outside tests compare the C library with it, and the
 //! benchmark times the two side by side.
 //!
@@ -6,10 +6,13 @@
 
 #[path = "plain_codes.rs"]
 mod codes;
+#[path = "plain_pieces.rs"]
+mod pieces;
 #[path = "plain_profile.rs"]
 mod profile;
 
 pub use codes::*;
+pub use pieces::*;
 pub use profile::*;
 use std::ops::Range;
 
@@ -33,6 +36,9 @@ pub const CELL_LENGTH: u32 = 7;
 pub const NO_SUCH_SYMBOL: u32 = 8;
 pub const TOO_MANY_LOST: u32 = 9;
 pub const NO_CODEWORD: u32 = 10;
+pub const TOO_MANY_CELLS: u32 = 16;
+pub const CELLS_MISSING: u32 = 17;
+pub const NO_SUCH_STATE: u32 = 22;
 
 pub const ACCEPTED: u8 = 0;
 pub const MARKED: u8 = 11;

@@ -4,6 +4,8 @@
 u32 flo_send(const u8 *, u64, const u8 *, u64, float *, u64, float *, u64);
 u32 flo_send_symbol(const u8 *, u64, const u8 *, u64, u64, float *, u64, float *, u64);
 u32 flo_receive(const u8 *, u64, u16, const float *, u64, const float *, u64, u8 *, u64, u16 *, u8 *);
+u32 flo_feed(const u8 *, u64, u8 *, u64, const float *, u64, const float *, u64);
+u32 flo_ask(const u8 *, u64, u16, const u8 *, u64, u8 *, u64, u16 *, u8 *);
 u32 flo_read_profile(const u8 *, u64, u32 *, float *, u8 *, u8 *, u32 *);
 u32 flo_write_profile(const u32 *, float, u8, u8, const u32 *, u8 *, u64 *);
 u32 flo_parity(u8, u8 *, u64);
@@ -68,6 +70,10 @@ static u32 run(const struct request *request) {
         return flo_send_symbol(l[0], n[0], l[1], n[1], a[0], (float *)l[2], n[2] / 4, (float *)l[3], n[3] / 4);
     case RECEIVE:
         return flo_receive(l[0], n[0], (u16)a[0], (float *)l[1], n[1] / 4, (float *)l[2], n[2] / 4, l[3], n[3], (u16 *)l[4], l[5]);
+    case FEED:
+        return flo_feed(l[0], n[0], l[1], n[1], (float *)l[2], n[2] / 4, (float *)l[3], n[3] / 4);
+    case ASK:
+        return flo_ask(l[0], n[0], (u16)a[0], l[1], n[1], l[2], n[2], (u16 *)l[3], l[4]);
     case READ_PROFILE:
         return flo_read_profile(l[0], n[0], (u32 *)l[1], (float *)l[2], l[3], l[4], (u32 *)l[5]);
     case WRITE_PROFILE:

@@ -5,6 +5,7 @@
 #endif
 #include "flo.h"
 
+#include <math.h>
 #include <pthread.h>
 #include <stdio.h>
 #include <string.h>
@@ -36,6 +37,7 @@ struct block {
     uint8_t received[FLO_MOST_DATA];
     uint16_t lost;
     uint8_t reasons[FLO_PACKETS];
+    uint8_t state[FLO_STATE];
 };
 
 static uint32_t write_profile(struct block *b, float level) {
@@ -65,6 +67,24 @@ static uint32_t send_block(struct block *b) {
 static uint32_t receive(struct block *b, uint16_t marks) {
     return flo_receive(b->profile, b->profile_length, marks, b->firsts, b->cells, b->seconds, b->cells, b->received, b->data_length, &b->lost,
                        b->reasons);
+}
+
+/* Feeds cells of the block's grid. */
+static uint32_t feed(struct block *b, size_t from, size_t count) {
+    return flo_feed(b->profile, b->profile_length, b->state, FLO_STATE, b->firsts + from, count, b->seconds + from, count);
+}
+
+/* Feeds the whole grid from the beginning, in pieces of this size. */
+static int feed_all(struct block *b, size_t size) {
+    size_t from;
+    memset(b->state, 0, FLO_STATE);
+    for (from = 0; from < b->cells; from += size)
+        if (feed(b, from, size < b->cells - from ? size : b->cells - from) != FLO_DONE) return 0;
+    return 1;
+}
+
+static uint32_t ask(struct block *b, uint16_t marks) {
+    return flo_ask(b->profile, b->profile_length, marks, b->state, FLO_STATE, b->received, b->data_length, &b->lost, b->reasons);
 }
 
 static int came_back(const struct block *b) {
@@ -174,6 +194,118 @@ static void test_damage(int mode, int k) {
     test("it is lost by a mark", receive(&one, 8) == FLO_DONE && came_back(&one) && one.lost == 8 && one.reasons[3] == FLO_MARKED);
 }
 
+/* A grid in pieces of one size and asked for is what it is whole: the number, the answers, the data. */
+static int fed_as_whole(struct block *b, size_t size, uint16_t marks) {
+    static uint8_t received[FLO_MOST_DATA], reasons[FLO_PACKETS];
+    uint32_t number;
+    uint16_t lost;
+    memset(b->received, PAINT, sizeof b->received);
+    number = receive(b, marks);
+    lost = b->lost;
+    memcpy(received, b->received, sizeof received);
+    memcpy(reasons, b->reasons, sizeof reasons);
+    memset(b->received, PAINT, sizeof b->received);
+    memset(b->reasons, PAINT, sizeof b->reasons);
+    return feed_all(b, size) && ask(b, marks) == number && b->lost == lost && memcmp(b->reasons, reasons, sizeof reasons) == 0 &&
+           memcmp(b->received, received, sizeof received) == 0;
+}
+
+static void test_pieces(int mode, int k) {
+    static const size_t sizes[] = {1, 63, 64, 1000, FLO_SYMBOL_CELLS, CELLS}; /* the first takes long, and is tried with one k */
+    struct block *b = &one;
+    size_t i;
+    begin(b, mode, k, 5);
+    send_block(b);
+    for (i = k == 14 ? 0 : 1; i < sizeof sizes / sizeof sizes[0]; i++) test("a grid in pieces", fed_as_whole(b, sizes[i], 0) && came_back(b));
+    *part_of(b, 0, 8) = 0.0f;
+    turn_over(part_of(b, 15, 700));
+    for (i = 2; i < sizeof sizes / sizeof sizes[0]; i++) {
+        test("a damaged grid in pieces", fed_as_whole(b, sizes[i], 0) && came_back(b) && b->lost == 0x8001);
+        test("too many are lost", fed_as_whole(b, sizes[i], 0xFF80) && b->lost == 0xFF81 && b->reasons[0] == FLO_DOUBTFUL);
+    }
+    test("asked again, with other marks", ask(b, 0) == FLO_DONE && came_back(b) && ask(b, 0x01FF) == FLO_TOO_MANY_LOST && ask(b, 0) == FLO_DONE);
+    begin(&other, mode, k, 6);
+    send_block(&other);
+    copy_packet(&other, b, 3);
+    test("a good packet of another block", fed_as_whole(&other, 5000, 0) && ask(&other, 0) == FLO_NO_CODEWORD);
+}
+
+/* What the bytes of a state say, and that a call which is refused or only asks leaves them. */
+static void test_state(int mode, int k) {
+    static const float firsts[] = {1.0f, -1.0f, -0.0f, 0.25f, NAN}, seconds[] = {0.5f, 0.5f, 0.0f, -3.0f, -INFINITY};
+    static const uint8_t bytes[] = {0, 5, 0, 1, 8, 3, 5};
+    static uint8_t state[FLO_STATE];
+    struct block *b = &one;
+    const size_t cells = (size_t)FLO_SYMBOLS(mode) * FLO_SYMBOL_CELLS;
+    begin(b, mode, k, 7);
+    memset(b->state, 0, FLO_STATE);
+    memset(state, 0, sizeof state);
+    memcpy(state, bytes, sizeof bytes);
+    test("five cells", flo_feed(b->profile, b->profile_length, b->state, FLO_STATE, firsts, 5, seconds, 5) == FLO_DONE);
+    test("their bytes", memcmp(b->state, state, FLO_STATE) == 0);
+    test("an empty piece", flo_feed(b->profile, b->profile_length, b->state, FLO_STATE, NULL, 0, NULL, 0) == FLO_DONE);
+    test("unequal lists", flo_feed(b->profile, b->profile_length, b->state, FLO_STATE, firsts, 2, seconds, 3) == FLO_CELLS_LENGTH);
+    test("one list empty", flo_feed(b->profile, b->profile_length, b->state, FLO_STATE, firsts, 2, NULL, 0) == FLO_CELLS_LENGTH);
+    send_block(b);
+    test("a cell too many", feed(b, 4, cells - 4) == FLO_TOO_MANY_CELLS);
+    test("too early a question", ask(b, 0xFFFF) == FLO_CELLS_MISSING && no_answer(b) && is_painted(b->received, sizeof b->received));
+    b->data_length -= 1;
+    test("and with too short a room", ask(b, 0xFFFF) == FLO_DATA_LENGTH && no_answer(b) && is_painted(b->received, sizeof b->received));
+    b->data_length += 1;
+    test("they are kept", memcmp(b->state, state, FLO_STATE) == 0);
+    test("all but one", feed(b, 5, cells - 6) == FLO_DONE && ask(b, 0) == FLO_CELLS_MISSING && feed(b, cells - 2, 2) == FLO_TOO_MANY_CELLS);
+    test("all", feed(b, cells - 1, 1) == FLO_DONE && ask(b, 0) == FLO_DONE && came_back(b) && feed(b, 0, 1) == FLO_TOO_MANY_CELLS);
+    test("all have come", b->state[0] == cells / 256 && b->state[1] == 0);
+}
+
+/* This much of the state is refused, by feeding and by asking, and kept. Other things are wrong too, but their turn is later. */
+static int no_such_state(struct block *b, uint8_t *state, size_t length) {
+    static uint8_t kept[FLO_STATE + 1];
+    uint8_t *lent = length == 0 ? NULL : state;
+    memcpy(kept, state, sizeof kept);
+    b->lost = 0xA5A5;
+    memset(b->reasons, PAINT, sizeof b->reasons);
+    return flo_feed(b->profile, b->profile_length, lent, length, b->firsts, 1, b->seconds, 2) == FLO_NO_SUCH_STATE &&
+           flo_ask(b->profile, b->profile_length, 0xFFFF, lent, length, b->received, 1, &b->lost, b->reasons) == FLO_NO_SUCH_STATE &&
+           no_answer(b) && memcmp(kept, state, sizeof kept) == 0;
+}
+
+/* A byte of the state changed, and put back. */
+static int no_such_byte(struct block *b, uint8_t *state, size_t place, int byte) {
+    const uint8_t was = state[place];
+    int refused;
+    state[place] = (uint8_t)byte;
+    refused = no_such_state(b, state, FLO_STATE);
+    state[place] = was;
+    return refused;
+}
+
+static void test_spoilt(int mode, int k) {
+    static uint8_t state[FLO_STATE + 1];
+    struct block *b = &one;
+    const size_t cells = (size_t)FLO_SYMBOLS(mode) * FLO_SYMBOL_CELLS;
+    begin(b, mode, k, 8);
+    send_block(b);
+    memset(b->state, 0, FLO_STATE);
+    test("half a symbol", feed(b, 0, 2048) == FLO_DONE);
+    memset(state, 0, sizeof state);
+    memcpy(state, b->state, FLO_STATE);
+    test("a state that is too short", no_such_state(b, state, FLO_STATE - 1) && no_such_state(b, state, 2) && no_such_state(b, state, 0));
+    test("a state that is too long", no_such_state(b, state, FLO_STATE + 1));
+    test("a byte that no cell leaves", no_such_byte(b, state, 2, 9) && no_such_byte(b, state, 2 + 2047, 16) && no_such_byte(b, state, 1000, 255));
+    test("a byte of a cell to come", no_such_byte(b, state, 2 + 2048, 1) && no_such_byte(b, state, 1 + cells, 8));
+    test("the state's last byte", no_such_byte(b, state, FLO_STATE - 1, 1));
+    test("fewer cells than have bytes", no_such_byte(b, state, 0, 7));
+    test("more cells than there are", no_such_byte(b, state, 0, (int)(cells / 256) + 1) && no_such_byte(b, state, 0, 255));
+    test("the state itself", flo_feed(b->profile, b->profile_length, state, FLO_STATE, b->firsts + 2048, cells - 2048, b->seconds + 2048,
+                                      cells - 2048) == FLO_DONE);
+    memcpy(b->state, state, FLO_STATE);
+    test("a copy of the state", ask(b, 0) == FLO_DONE && came_back(b));
+    b->mode ^= 1;
+    write_profile(b, 0.5f);
+    test("a full state in the other mode", mode == 0 ? no_such_state(b, state, FLO_STATE) : ask(b, 0) == FLO_CELLS_MISSING);
+}
+
 /* The profile as it is now is refused by this number: by all calls, with the lent memory kept and the answers zero. */
 static int is_refused(struct block *b, uint32_t number) {
     uint32_t masks[FLO_MASKS], seeds[FLO_SEEDS], sum = 0;
@@ -187,8 +319,13 @@ static int is_refused(struct block *b, uint32_t number) {
     for (i = 0; i < FLO_SEEDS; i++) sum |= seeds[i];
     b->lost = 0xA5A5;
     memset(b->reasons, PAINT, sizeof b->reasons);
-    return sum == 0 && mode == 0 && k == 0 && level == 0.0f && send_block(b) == number && receive(b, 0xFFFF) == number && no_answer(b) &&
-           is_painted(b->firsts, sizeof b->firsts) && is_painted(b->seconds, sizeof b->seconds) && is_painted(b->received, sizeof b->received);
+    if (receive(b, 0xFFFF) != number || !no_answer(b)) return 0;
+    b->lost = 0xA5A5;
+    memset(b->reasons, PAINT, sizeof b->reasons);
+    if (ask(b, 0xFFFF) != number || !no_answer(b)) return 0;
+    return sum == 0 && mode == 0 && k == 0 && level == 0.0f && send_block(b) == number && feed(b, 0, 1) == number &&
+           is_painted(b->firsts, sizeof b->firsts) && is_painted(b->seconds, sizeof b->seconds) && is_painted(b->received, sizeof b->received) &&
+           is_painted(b->state, sizeof b->state);
 }
 
 static void test_refusals(int mode, int k) {
@@ -247,7 +384,8 @@ static int run_block(struct block *b, int number) {
     begin(b, number % 2, number < 2 ? 8 : 14, (unsigned)number);
     if (send_block(b) != FLO_DONE) return 0;
     turn_over(part_of(b, (unsigned)number, 500));
-    return receive(b, 0x8000) == FLO_DONE && came_back(b);
+    if (receive(b, 0x8000) != FLO_DONE || !came_back(b)) return 0;
+    return feed_all(b, 3000) && ask(b, 0x8000) == FLO_DONE && came_back(b);
 }
 
 static void *work(void *memory) {
@@ -300,6 +438,17 @@ static void *call_receive(void *number) {
     return number;
 }
 
+static void *call_feed(void *number) {
+    memset(small.state, 0, FLO_STATE);
+    *(uint32_t *)number = feed(&small, 0, small.cells);
+    return number;
+}
+
+static void *call_ask(void *number) {
+    *(uint32_t *)number = ask(&small, (uint16_t)((1u << (FLO_PACKETS - small.k)) - 1));
+    return number;
+}
+
 static void *call_read_profile(void *number) {
     static uint32_t masks[FLO_MASKS], seeds[FLO_SEEDS];
     static float level;
@@ -346,6 +495,8 @@ static void test_stack(void) {
         {"flo_send", call_send},
         {"flo_send_symbol", call_send_symbol},
         {"flo_receive", call_receive},
+        {"flo_feed", call_feed},
+        {"flo_ask", call_ask},
         {"flo_read_profile", call_read_profile},
         {"flo_write_profile", call_write_profile},
         {"flo_parity", call_parity},
@@ -360,6 +511,7 @@ static void test_stack(void) {
             size_t used;
             begin(&small, (int)(j % 2), ks[j / 2], 4);
             send_block(&small);
+            feed_all(&small, CELLS);
             used = stack_of(calls[i].call);
             test(calls[i].name, used > 0);
             if (used > most) most = used;
@@ -373,11 +525,14 @@ int main(void) {
     static const int ks[] = {8, 12, 14};
     int i;
     test("the sizes agree", FLO_BLOCK_BYTES == FLO_PACKETS * FLO_PACKET_BYTES && FLO_MOST_DATA == 14 * FLO_PACKET_BYTES &&
-                                FLO_MOST_SYMBOLS == FLO_SYMBOLS(0));
+                                FLO_MOST_SYMBOLS == FLO_SYMBOLS(0) && FLO_STATE == 2 + CELLS);
     for (i = 0; i < 6; i++) {
         test_round_trip(i % 2, ks[i / 2]);
         test_damage(i % 2, ks[i / 2]);
         test_refusals(i % 2, ks[i / 2]);
+        test_pieces(i % 2, ks[i / 2]);
+        test_state(i % 2, ks[i / 2]);
+        test_spoilt(i % 2, ks[i / 2]);
     }
     test_threads();
     test_stack();
