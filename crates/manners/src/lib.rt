@@ -124,6 +124,9 @@ fn meaning(out: &mut [u8], at: usize, number: u32) -> usize {
             at,
             b"in some column no codeword agrees with all packets that aren't lost",
         ),
+        16 => put::bytes(out, at, b"the piece reaches past the grid's end"),
+        17 => put::bytes(out, at, b"the last cell has not come yet"),
+        22 => put::bytes(out, at, b"a state that no feeding with this profile leaves"),
         _ => put::bytes(out, at, b"unknown number"),
     }
 }

@@ -18,6 +18,9 @@ const UNREAD: u32 = u32::MAX;
 // Bytes of one symbol's first parts, or second parts.
 const PARTS: usize = 16_384;
 
+// Bytes of the state that feeding keeps: how many cells have come, and a byte for each cell of the largest grid.
+const STATE: usize = 28_674;
+
 // Room for the report.
 const ROOM: usize = 256;
 
@@ -27,10 +30,9 @@ enum Two {
     Cut,
 }
 
-// The block's bits so far, the number, and how many bytes of cells came.
-struct Heard {
+// What feeding answered, and how many bytes of cells came for it.
+struct Fed {
     number: u32,
-    bits: [u8; 48000],
     came: usize,
 }
 
@@ -74,61 +76,48 @@ fn cut() -> u32 {
     }
 }
 
-// Reads one symbol, and hears it.
-fn hear_one(p: Profile, y: usize, bits: [u8; 48000]) -> Heard
+// Reads one symbol, and feeds its cells as one piece.
+fn feed_one(p: Profile, state: &mut [u8]) -> Fed
     ensures { λ r. ⌜ r .came ≤ 32768 ⌝ }
 {
     let mut firsts = [0f32; 4096];
     let mut seconds = [0f32; 4096];
     let first = read_parts(&mut firsts);
     if first != PARTS {
-        return Heard {
+        return Fed {
             number: cut(),
-            bits,
             came: first,
         };
     }
     let second = read_parts(&mut seconds);
     let came = PARTS + second;
     if second != PARTS {
-        return Heard {
+        return Fed {
             number: cut(),
-            bits,
             came,
         };
     }
-    let h = receiving::hear(p, y, &firsts, &seconds, bits);
-    let bits = h.bits;
-    Heard {
-        number: h.number,
-        bits,
+    Fed {
+        number: receiving::feed(p, state, &firsts, &seconds),
         came,
     }
 }
 
-// The symbols in their order, up to a refusal.
-fn hear_all(p: Profile, none: [u8; 48000]) -> Heard {
+// The symbols in their order, up to a refusal, all into one state.
+fn feed_all(p: Profile, state: &mut [u8]) -> Fed {
     let n = block::symbol_count(p.mode);
-    let mut bits = none;
     let mut came: usize = 0;
     for y in 0..n {
-        let h = hear_one(p, y, bits);
-        let next = h.bits;
-        bits = next;
-        came = 2 * PARTS * y + h.came;
-        if h.number != 0 {
-            return Heard {
-                number: h.number,
-                bits,
+        let fed = feed_one(p, state);
+        came = 2 * PARTS * y + fed.came;
+        if fed.number != 0 {
+            return Fed {
+                number: fed.number,
                 came,
             };
         }
     }
-    Heard {
-        number: 0,
-        bits,
-        came,
-    }
+    Fed { number: 0, came }
 }
 
 // What comes after the cells: 0 where the input ended.
@@ -205,9 +194,9 @@ fn say_lost(receipt: Receipt, k: u8) {
     }
 }
 
-// Judges what was heard, and keeps the data.
-fn judge(p: Profile, marks: u16, bits: [u8; 48000], data: &mut [u8]) -> Receipt {
-    let receipt = receiving::conclude(p, marks, bits, data);
+// Asks for what was fed, and keeps the data.
+fn ask(p: Profile, marks: u16, state: &[u8], data: &mut [u8]) -> Receipt {
+    let receipt = receiving::ask(p, marks, state, data);
     if receipt.number == 0 {
         keep(data);
     } else {
@@ -216,23 +205,23 @@ fn judge(p: Profile, marks: u16, bits: [u8; 48000], data: &mut [u8]) -> Receipt 
     receipt
 }
 
-// Reads the cells, and judges them.
+// Feeds all cells, and asks for the data once the input has ended with them.
 fn receive_cells(p: Profile, marks: u16) -> Receipt {
     let due = 2 * PARTS * block::symbol_count(p.mode);
-    let h = hear_all(p, [0u8; 48000]);
-    let number = if h.number == 0 {
+    let mut state = [0u8; STATE];
+    let fed = feed_all(p, &mut state);
+    let number = if fed.number == 0 {
         after_cells()
     } else {
-        h.number
+        fed.number
     };
     if number != 0 {
-        say_cells(number, h.came, due);
+        say_cells(number, fed.came, due);
         return silence(number);
     }
-    let bits = h.bits;
     let mut data = [0u8; 1708];
     let n = io::count((122 * p.k as u16) as isize, &data);
-    judge(p, marks, bits, &mut data[..n])
+    ask(p, marks, &state, &mut data[..n])
 }
 
 // Reads the profile to its place and the mark mask, then judges the profile, then the cells.
