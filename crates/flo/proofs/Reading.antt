@@ -1,11 +1,13 @@
 -- What a call owes after reading the profile, from what the reading answered.
-use mathlib.Core.Path.{_≡_, sym, ap, subst, _∙_}
+use mathlib.Core.Path.{_≡_, refl, sym, ap, subst, _∙_}
 use mathlib.Core.List.{List}
 use Prim.Native.Nat.{ℕ}
 use Rattle.rules.specs.Profile.{reading}
+use Rattle.rules.specs.Block.{silence}
 use Rattle.rules.specs.declared.Profile.{Profile}
 use Rattle.rules.specs.declared.Reading.{Reading}
-use Rattle.flo.specs.Calls.{AfterReading}
+use Rattle.rules.specs.declared.Receipt.{Receipt}
+use Rattle.flo.specs.Calls.{AfterReading, Unread}
 
 module _ {profile : List ℕ} (Refused : ℕ → Type 0) (Rule : Profile → Type 0) (a : Reading) (e : a ≡ reading profile) where
   pub not-read : ¬ (a .number ≡ 0) → Refused (a .number) → AfterReading profile Refused Rule
@@ -21,3 +23,9 @@ module _ {profile : List ℕ} (Refused : ℕ → Type 0) (Rule : Profile → Typ
         unread = λ ne. absurd (ne (sym (ap (λ (r : Reading). r .number) e) ∙ z));
         read = λ _. subst Rule (ap (λ (r : Reading). r .profile) e) x;
       }
+
+-- a silent receipt, handed over, is an unread profile's answer
+pub unread-silent : {n lost m : ℕ} {reasons : List ℕ} (before : List ℕ) → record { number = n; lost = lost; reasons = reasons } ≡ silence m
+    → Unread before before lost reasons n m
+unread-silent before e =
+    (ap (λ (r : Receipt). r .number) e, ap (λ (r : Receipt). r .lost) e, ap (λ (r : Receipt). r .reasons) e, refl)

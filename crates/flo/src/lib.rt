@@ -1,6 +1,8 @@
 // The C interface, thin: include/flo.h says each call's rule in words.
+ghost use mathlib.Core.Path.{_≡_};
 ghost use Rattle.flo.specs.Calls.{FloSend, FloSendSymbol, FloReceive, FloFeed, FloAsk, FloReadProfile, FloWriteProfile, FloParity};
 use rules::Profile;
+use rules::Receipt;
 
 #[no_mangle]
 pub extern "C" fn flo_send(
@@ -37,6 +39,16 @@ pub extern "C" fn flo_send_symbol(
     sending::send_symbol(p, data, symbol, firsts, seconds)
 }
 
+// Hands a receipt over by the caller's pointers, and its number as the answer.
+fn hand_over(receipt: Receipt, lost: &mut u16, reasons: &mut [u8; 16]) -> u32
+    ensures { λ r. ⌜ record { number = r; lost = now (lost .exit); reasons = now (reasons .exit) } ≡ receipt ⌝ }
+{
+    *lost = receipt.lost;
+    let each = receipt.reasons;
+    *reasons = each;
+    receipt.number
+}
+
 #[no_mangle]
 pub extern "C" fn flo_receive(
     profile: &[u8],
@@ -51,16 +63,14 @@ pub extern "C" fn flo_receive(
 {
     let a = profile::read(profile);
     if a.number != 0 {
-        *lost = 0;
-        *reasons = [0u8; 16];
-        return a.number;
+        return hand_over(receiving::silence(a.number), lost, reasons);
     }
     let p = a.profile;
-    let receipt = receiving::receive(p, marks, firsts, seconds, data);
-    *lost = receipt.lost;
-    let each = receipt.reasons;
-    *reasons = each;
-    receipt.number
+    hand_over(
+        receiving::receive(p, marks, firsts, seconds, data),
+        lost,
+        reasons,
+    )
 }
 
 #[no_mangle]
@@ -88,16 +98,10 @@ pub extern "C" fn flo_ask(
 {
     let a = profile::read(profile);
     if a.number != 0 {
-        *lost = 0;
-        *reasons = [0u8; 16];
-        return a.number;
+        return hand_over(receiving::silence(a.number), lost, reasons);
     }
     let p = a.profile;
-    let receipt = receiving::ask(p, marks, state, data);
-    *lost = receipt.lost;
-    let each = receipt.reasons;
-    *reasons = each;
-    receipt.number
+    hand_over(receiving::ask(p, marks, state, data), lost, reasons)
 }
 
 #[no_mangle]

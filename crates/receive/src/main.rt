@@ -146,28 +146,19 @@ fn keep(data: &[u8]) {
     file::keep(&path[..n], data);
 }
 
-// A refusal: its number, mask and reasons zero.
-fn silence(number: u32) -> Receipt {
-    Receipt {
-        number,
-        lost: 0,
-        reasons: [0u8; 16],
-    }
-}
-
 // A refusal of the profile.
 fn refused(number: u32) -> Receipt {
     manners::refuse(number);
-    silence(number)
+    receiving::silence(number)
 }
 
 // Input that ends before the mark mask does is refused, unless it did not end.
 fn stopped() -> Receipt {
     if manners::is_unread(b"receive") {
-        return silence(UNREAD);
+        return receiving::silence(UNREAD);
     }
     manners::refuse_short_input(1, b"the mark mask does");
-    silence(1)
+    receiving::silence(1)
 }
 
 // Says why the cells gave no data, where it was not said yet.
@@ -217,7 +208,7 @@ fn receive_cells(p: Profile, marks: u16) -> Receipt {
     };
     if number != 0 {
         say_cells(number, fed.came, due);
-        return silence(number);
+        return receiving::silence(number);
     }
     let mut data = [0u8; 1708];
     let n = io::count((122 * p.k as u16) as isize, &data);

@@ -13,7 +13,7 @@ use rules::Profile;
 use rules::Receipt;
 
 // A refusal: its number, and nothing else.
-fn silence(number: u32) -> Receipt
+pub fn silence(number: u32) -> Receipt
     ensures { λ r. ⌜ r ≡ rule.silence number ⌝ }
 {
     Receipt {

@@ -56,7 +56,10 @@ fn is_state(mode: u8, state: &[u8]) -> bool
     if largest(&state[2..2 + n]) > 8 {
         return false;
     }
-    largest(&state[2 + n..]) == 0
+    if largest(&state[2 + n..]) > 0 {
+        return false;
+    }
+    true
 }
 
 // 4, 22, 7, 16, the first that fits, else 0.

@@ -1,28 +1,53 @@
+use mathlib.Core.Path.{refl, sym, _∙_, subst}
 use borrow.Author.Needs.{needs}
-use mathlib.Core.Path.{refl}
-use Rattle.flo.proofs.Reading.{not-read, was-read}
+use Rattle.rules.specs.Pieces.{AskRule}
+use Rattle.rules.specs.declared.Receipt.{Receipt}
+use Rattle.flo.proofs.Reading.{not-read, was-read, unread-silent}
 use Rattle.flo.proofs.flo_ask.Statement.{statement}
 use Rattle.flo.proofs.flo_ask.Tie as tie
 
 read-requires : tie.Need-read-requires
 read-requires c κs = search needs
 
+silence-requires : tie.Need-silence-requires
+silence-requires c κs = search needs
+
+hand-over-requires : tie.Need-hand-over-requires
+hand-over-requires c κs = search needs
+
 returns : tie.Need-returns
 returns c =
-    let a = c .before .before .before .read in
-    not-read _ _ (a .result) (a .ensures) (c .before .if1 .taken) (refl, refl, refl, refl)
+    let t = c .before .before .before .before in
+    let p = t .before .before .read in
+    not-read _ _ (p .result) (p .ensures) (t .if1 .taken) (unread-silent _ (c .hand-over .ensures ∙ c .before .before .before .silence .ensures))
 
 ask-requires : tie.Need-ask-requires
 ask-requires c κs = search needs
+
+hand-over-requires-2 : tie.Need-hand-over-requires-2
+hand-over-requires-2 c κs = search needs
 
 same-length : tie.Need-same-length
 same-length c = search needs
 
 returns-2 : tie.Need-returns-2
 returns-2 c =
-    let e = c .before .before .before .before .before .before in
-    let a = e .before .before .read in
-    was-read _ _ (a .result) (a .ensures) (e .if1 .left) (c .before .before .before .ask .ensures)
+    let r = c .before .before .before .before .before in
+    let e = r .before .before .before in
+    let p = e .before .before .read in
+    let a = c .before .before .before .before .before .before .before .before .before .before .before .before .before .before .args in
+    was-read _ _ (p .result) (p .ensures) (e .if1 .left)
+    (subst (λ (x : Receipt). AskRule (p .result .profile) (a .marks) (a .state .now) (a .«data» .now) (r .ask .last .1 .1 .1 .0) x) (sym (c .hand-over2 .ensures)) (r .ask .ensures))
 
 pub flo-ask-spec : {M : Type 1} → statement M
-flo-ask-spec = tie.close (tie.spec read-requires returns ask-requires same-length returns-2)
+flo-ask-spec =
+    tie.close
+    (tie.spec
+    read-requires
+    silence-requires
+    hand-over-requires
+    returns
+    ask-requires
+    hand-over-requires-2
+    same-length
+    returns-2)

@@ -1,33 +1,53 @@
+use mathlib.Core.Path.{refl, sym, _∙_, subst}
 use borrow.Author.Needs.{needs}
-use mathlib.Core.Path.{refl}
-use Rattle.flo.proofs.Reading.{not-read, was-read}
+use Rattle.rules.specs.Block.{ReceiveRule}
+use Rattle.rules.specs.declared.Receipt.{Receipt}
+use Rattle.flo.proofs.Reading.{not-read, was-read, unread-silent}
 use Rattle.flo.proofs.flo_receive.Statement.{statement}
 use Rattle.flo.proofs.flo_receive.Tie as tie
-use Rattle.flo.proofs.flo_receive.Reads as reads
-use Rattle.flo.proofs.flo_receive.Lts as lts
-use Rattle.profile.proofs.read.Reads as read-reads
-use Rattle.receiving.proofs.receive.Reads as receive-reads
 
--- src/lib.rt:44:9
 read-requires : tie.Need-read-requires
 read-requires c κs = search needs
 
--- src/lib.rt:48:9
-returns : tie.Need-returns
-returns c = let a = c .before .before .before .read in not-read _ _ (a .result) (a .ensures) (c .before .if1 .taken) (refl, refl, refl, refl)
+silence-requires : tie.Need-silence-requires
+silence-requires c κs = search needs
 
--- src/lib.rt:51:9
+hand-over-requires : tie.Need-hand-over-requires
+hand-over-requires c κs = search needs
+
+returns : tie.Need-returns
+returns c =
+    let t = c .before .before .before .before in
+    let p = t .before .before .read in
+    not-read _ _ (p .result) (p .ensures) (t .if1 .taken) (unread-silent _ (c .hand-over .ensures ∙ c .before .before .before .silence .ensures))
+
 receive-requires : tie.Need-receive-requires
 receive-requires c κs = search needs
 
--- src/lib.rt:32:1
+hand-over-requires-2 : tie.Need-hand-over-requires-2
+hand-over-requires-2 c κs = search needs
+
 same-length : tie.Need-same-length
 same-length c = search needs
 
--- src/lib.rt:32:1
 returns-2 : tie.Need-returns-2
-returns-2 c = let a = c .before .before .before .before .before .before .before .before .read in was-read _ _ (a .result) (a .ensures) (c .before .before .before .before .before .before .if1 .left) (c .before .before .before .receive .ensures)
+returns-2 c =
+    let r = c .before .before .before .before .before in
+    let e = r .before .before .before in
+    let p = e .before .before .read in
+    let a = c .before .before .before .before .before .before .before .before .before .before .before .before .before .before .before .args in
+    was-read _ _ (p .result) (p .ensures) (e .if1 .left)
+    (subst (λ (x : Receipt). ReceiveRule (p .result .profile) (a .marks) (a .firsts .now) (a .seconds .now) (a .«data» .now) (r .receive .last .1 .1 .1 .1 .0) x) (sym (c .hand-over2 .ensures)) (r .receive .ensures))
 
 pub flo-receive-spec : {M : Type 1} → statement M
 flo-receive-spec =
-    tie.close (tie.spec read-requires returns receive-requires same-length returns-2)
+    tie.close
+    (tie.spec
+    read-requires
+    silence-requires
+    hand-over-requires
+    returns
+    receive-requires
+    hand-over-requires-2
+    same-length
+    returns-2)

@@ -1,15 +1,6 @@
 -- The tests in their order; each that fails tells that it is no state.
-use mathlib.Core.Path.{_≡_, sym, _∙_}
-use mathlib.Core.List.{List}
-use Prim.Native.Nat.{ℕ, _*_, _≤_}
-use native.Mathlib.Decide.{ℕ-discrete}
 use native.Mathlib.Omega.{arith}
-use lib.Dec.{eqb}
-use lib.ListN.{length}
 use borrow.Author.Needs.{needs}
-use borrow.Author.Tests.{eq-eqb, ne-eqb}
-use Rattle.rules.specs.Slots.{symbols}
-use Rattle.rules.specs.Pieces.{isState}
 use Rattle.receiving.proofs.States.{passes, fails, come-small, rest-zero, small-zero}
 use Rattle.receiving.proofs.pieces.is_state.Statement.{statement}
 use Rattle.receiving.proofs.pieces.is_state.Tie as tie
@@ -68,34 +59,22 @@ largest-requires-2 : tie.Need-largest-requires-2
 largest-requires-2 c κs = search needs
 
 returns-4 : tie.Need-returns-4
-returns-4 c = go (ℕ-discrete (c .largest2 .result) 0)
-  where
-    e : tie.Else3
-    e = c .before .before
+returns-4 c =
+    let l = c .before in
+    let s = l .before .before .before .before .before .before .before .seen in
+    let a = l .before .before .before .before .before .before .before .before .before .before .args in
+    fails _ _
+    (λ w. omega (arith, rest-zero (a .state .now) (s .result) (w .long) (s .ensures .0) (omega arith) (l .largest2 .result) (l .largest2 .ensures) _ w))
 
-    l : tie.After-largest
-    l = e .before
-
-    s : tie.After-seen
-    s = l .before .before .before .before
-
-    state : List ℕ
-    state = s .before .before .before .args .state .now
-
-    long : length state ≡ 28674
-    long = s .before .if1 .left
-
-    go : Dec (c .largest2 .result ≡ 0)
-        → eqb (c .largest2 .result) 0 ≡ isState (4096 * symbols (s .before .before .before .args .mode)) state
-    go (yes z) =
-        eq-eqb _ _ z
-        ∙ passes _ _
-        (small-zero state (s .seen .result) long (s .seen .ensures .0) (omega arith) (l .largest .result) (c .largest2 .result)
-        (l .largest .ensures) (c .largest2 .ensures) _ (omega arith) (omega arith) (omega arith))
-    go (no n) =
-        ne-eqb _ _ n
-        ∙ fails _ _
-        (λ w. n (omega (arith, rest-zero state (s .seen .result) long (s .seen .ensures .0) (omega arith) (c .largest2 .result) (c .largest2 .ensures) _ w)))
+returns-5 : tie.Need-returns-5
+returns-5 c =
+    let come = c .before .before .before .before .largest in
+    let rest = c .before .largest2 in
+    let s = c .before .before .before .before .before .before .before .before in
+    let a = s .before .before .before .args in
+    passes _ _
+    (small-zero (a .state .now) (s .seen .result) (s .before .if1 .left) (s .seen .ensures .0) (omega arith) (come .result) (rest .result)
+    (come .ensures) (rest .ensures) _ (omega arith) (omega arith) (omega arith))
 
 pub is-state-spec : {M : Type 1} → statement M
 is-state-spec =
@@ -117,4 +96,5 @@ is-state-spec =
     part-largest-start-2
     part-largest-end-2
     largest-requires-2
-    returns-4)
+    returns-4
+    returns-5)
