@@ -18,7 +18,7 @@ use Rattle.laws.specs.Holds.{Holds}
 use Rattle.laws.specs.Filled.{upTo, holds-next}
 use Rattle.cells.proofs.Inverse.{point-cell-lt}
 use Rattle.cells.proofs.Deciding.{decide-lt, gridCell}
-use Rattle.cells.specs.Reading.{byteAt}
+use Rattle.cells.specs.Reading.{byteAt, pointByte, spreadBit}
 
 pub slots-lt : (m : ℕ) → slots m < 4096
 slots-lt m = go (eqb m 0)
@@ -31,30 +31,35 @@ slots-lt m = go (eqb m 0)
 pub grid-cell-lt : (m t i : ℕ) → t < slots m → i < 500 → gridCell t i < 4096 * symbols m
 grid-cell-lt m t i h l = omega (arith, point-cell-lt t i l)
 
-module _ (cells : ℕ → ℕ) where
-  -- the two bits of a point
-  first-bit : (t i : ℕ) → keptBit cells t (2 * i) ≡ cells (gridCell t i) % 3
-  unfolding keptBit
-  first-bit t i = let half : 2 * i / 2 ≡ i = omega arith in rw half (simp (eq-eqb (2 * i % 2) 0 (omega arith)))
+module _ (bytes : ℕ → ℕ) where
+  -- the two bits of a byte
+  first-bit : (i : ℕ) → spreadBit bytes (2 * i) ≡ bytes i % 3
+  first-bit i = let half : 2 * i / 2 ≡ i = omega arith in rw half (simp (eq-eqb (2 * i % 2) 0 (omega arith)))
 
-  second-bit : (t i : ℕ) → keptBit cells t (2 * i + 1) ≡ cells (gridCell t i) / 3
-  unfolding keptBit
-  second-bit t i = let half : (2 * i + 1) / 2 ≡ i = omega arith in rw half (simp (ne-eqb ((2 * i + 1) % 2) 0 (omega arith)))
+  second-bit : (i : ℕ) → spreadBit bytes (2 * i + 1) ≡ bytes i / 3
+  second-bit i = let half : (2 * i + 1) / 2 ≡ i = omega arith in rw half (simp (ne-eqb ((2 * i + 1) % 2) 0 (omega arith)))
 
-  -- one point more of slot t
-  pub read-point : (t i n v w : ℕ) (g : ℕ → ℕ) (l : List ℕ) → 2 * i + 2 ≤ n
-      → v ≡ cells (gridCell t i) % 3
-      → w ≡ cells (gridCell t i) / 3
-      → Holds 0 n (upTo (2 * i) (keptBit cells t) g) l
-      → Holds 0 n (upTo (2 * (i + 1)) (keptBit cells t) g) (set (set l (2 * i) v) (2 * i + 1) w)
-  read-point t i n v w g l room p q h =
-      subst (λ (k : ℕ). Holds 0 n (upTo k (keptBit cells t) g) (set (set l (2 * i) v) (2 * i + 1) w)) next
-      (holds-next (keptBit cells t) g 0 (2 * i + 1) w (omega arith) (q ∙ sym (second-bit t i))
-      (holds-next (keptBit cells t) g 0 (2 * i) v (omega arith) (p ∙ sym (first-bit t i)) h))
+  -- one byte more
+  pub spread-next : (i n v w : ℕ) (g : ℕ → ℕ) (l : List ℕ) → 2 * i + 2 ≤ n
+      → v ≡ bytes i % 3
+      → w ≡ bytes i / 3
+      → Holds 0 n (upTo (2 * i) (spreadBit bytes) g) l
+      → Holds 0 n (upTo (2 * (i + 1)) (spreadBit bytes) g) (set (set l (2 * i) v) (2 * i + 1) w)
+  spread-next i n v w g l room p q h =
+      subst (λ (k : ℕ). Holds 0 n (upTo k (spreadBit bytes) g) (set (set l (2 * i) v) (2 * i + 1) w)) next
+      (holds-next (spreadBit bytes) g 0 (2 * i + 1) w (omega arith) (q ∙ sym (second-bit i))
+      (holds-next (spreadBit bytes) g 0 (2 * i) v (omega arith) (p ∙ sym (first-bit i)) h))
     where
       next : 2 * i + 1 + 1 ≡ 2 * (i + 1)
       next = omega arith
 
+-- the bytes of a slot's points, spread, are the slot's bits
+pub spread-slot : (cells bytes : ℕ → ℕ) (t : ℕ) → ((i : ℕ) → i < 500 → bytes i ≡ pointByte cells t i)
+    → (k : ℕ) → k < 1000 → spreadBit bytes k ≡ keptBit cells t k
+unfolding keptBit
+spread-slot cells bytes t each k h = ap (λ (b : ℕ). pick (eqb (k % 2) 0) (b % 3) (b / 3)) (each (k / 2) (omega arith))
+
+module _ (cells : ℕ → ℕ) where
   -- bit k of slot t is the block's
   pub kept-in-block : (m t k : ℕ) → k < slotBits m → keptBit cells t k ≡ inBlock m (keptBit cells) (slotBits m * t + k)
   kept-in-block m t k h =

@@ -14,7 +14,7 @@ ghost use Rattle.cells.specs.Order.{Places, Points};
 ghost use Rattle.cells.specs.Spot.{belonging};
 ghost use Rattle.cells.specs.Symbol as symbolRule;
 ghost use Rattle.cells.specs.Symbol.{Signed, levelOf, symbolCell, WriteRule};
-ghost use Rattle.cells.specs.Reading.{DecideRule, ReadRule};
+ghost use Rattle.cells.specs.Reading.{DecideRule, pointByte, spreadBit, ReadRule};
 
 mod place_table;
 mod point_table;
@@ -327,17 +327,37 @@ pub fn decide_cells(firsts: &[f32], seconds: &[f32], out: &mut [u8]) -> bool
     true
 }
 
-// The 1000 bits of block slot t, from the bytes of the grid's cells.
+// The bytes of block slot t's points, from those of the grid's cells.
+fn slot_bytes(mode: u8, t: usize, places: &[u16], cells: &[u8]) -> [u8; 500]
+    requires { ⌜ (t < slots mode) × Places (now places) × (length (now cells) ≡ 4096 * symbols mode) ⌝ }
+    ensures { λ r. ⌜ Holds 0 500 (pointByte (row (now (cells .entry))) t) r ⌝ }
+{
+    let from = 4096 * (t / 7);
+    let mut out = [0u8; 500];
+    for i in 0..500 {
+        out[i] = cells[from + point_cell(places, t, i)];
+    }
+    out
+}
+
+// The two decisions of each byte. A step of its own, so that the bytes stand side by side and many are divided at a time.
+fn spread(bytes: &[u8], bits: &mut [u8])
+    requires { ⌜ (length (now bytes) ≡ 500) × (length (now bits) ≡ 1000) ⌝ }
+    ensures { λ _. ⌜ Holds 0 1000 (spreadBit (row (now (bytes .entry)))) (now (bits .exit)) ⌝ }
+{
+    for i in 0..500 {
+        let b = bytes[i];
+        bits[2 * i] = b % 3;
+        bits[2 * i + 1] = b / 3;
+    }
+}
+
+// The 1000 bits of block slot t.
 fn read_slot(mode: u8, t: usize, places: &[u16], cells: &[u8], bits: &mut [u8])
     requires { ⌜ (t < slots mode) × Places (now places) × (length (now cells) ≡ 4096 * symbols mode) × (length (now bits) ≡ slotBits mode) ⌝ }
     ensures { λ _. ⌜ Holds 0 (slotBits mode) (keptBit (row (now (cells .entry))) t) (now (bits .exit)) ⌝ }
 {
-    let from = 4096 * (t / 7);
-    for i in 0..500 {
-        let b = cells[from + point_cell(places, t, i)];
-        bits[2 * i] = b % 3;
-        bits[2 * i + 1] = b / 3;
-    }
+    spread(&slot_bytes(mode, t, places, cells), bits);
 }
 
 // A block's bits from the bytes of the grid's cells. Answers whether there were as many cells and bits as the mode has; else nothing is written.
