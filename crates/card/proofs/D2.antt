@@ -119,6 +119,8 @@ d2 =
       ask-22 = ask-22;
       takes = takes;
       any-cutting = any-cutting;
+      as-whole = λ P marks f s state before after after' a a' h all r.
+          one-receipt P marks before f s after after' a a' (any-cutting P marks f s state before after a h all r);
       ask-reads = ask-reads;
       ask-accepts = λ P marks f s state before after a h r t.
           accepts P marks f s before after a (any-cutting P marks f s state before after a h (ask-reads P marks f s state before after a h r .0 t .2) r) t;

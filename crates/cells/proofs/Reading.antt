@@ -9,11 +9,11 @@ use lib.Dec.{eqb}
 use lib.Ieee.{Float}
 use lib.ListN.{getD, set}
 use borrow.Author.Tests.{eq-eqb, ne-eqb}
-use Rattle.rules.specs.Bits.{pick, row}
+use Rattle.rules.specs.Bits.{pick}
 use Rattle.rules.specs.Slots.{slots, slotBits, symbols}
 use Rattle.rules.specs.Points.{zeroPart, decide}
 use Rattle.rules.specs.Block.{heard, inBlock, partOf}
-use Rattle.rules.specs.Pieces.{keptBit}
+use Rattle.rules.specs.Pieces.{decisionIn, keptBit}
 use Rattle.laws.specs.Holds.{Holds}
 use Rattle.laws.specs.Filled.{upTo, holds-next}
 use Rattle.cells.proofs.Inverse.{point-cell-lt}
@@ -57,7 +57,7 @@ module _ (bytes : ℕ → ℕ) where
 pub spread-slot : (cells bytes : ℕ → ℕ) (t : ℕ) → ((i : ℕ) → i < 500 → bytes i ≡ pointByte cells t i)
     → (k : ℕ) → k < 1000 → spreadBit bytes k ≡ keptBit cells t k
 unfolding keptBit
-spread-slot cells bytes t each k h = ap (λ (b : ℕ). pick (eqb (k % 2) 0) (b % 3) (b / 3)) (each (k / 2) (omega arith))
+spread-slot cells bytes t each k h = ap (λ (b : ℕ). decisionIn b k) (each (k / 2) (omega arith))
 
 module _ (cells : ℕ → ℕ) where
   -- bit k of slot t is the block's
@@ -85,7 +85,7 @@ module _ (cells : ℕ → ℕ) where
       second : cells c / 3 ≡ decide (getD s c zeroPart)
       second = omega (arith, byte, decide-lt (getD f c zeroPart))
 
-      go : Dec (i % 2 ≡ 0) → pick (eqb (i % 2) 0) (cells c % 3) (cells c / 3) ≡ decide (partOf i f s c)
+      go : Dec (i % 2 ≡ 0) → decisionIn (cells c) i ≡ decide (partOf i f s c)
       go (yes e) = simp (eq-eqb (i % 2) 0 e) first
       go (no e) = simp (ne-eqb (i % 2) 0 e) second
 
@@ -94,4 +94,4 @@ pub kept-same : (cells cells' : ℕ → ℕ) (m : ℕ) → ((c : ℕ) → c < 40
     → (t i : ℕ) → t < slots m → i < slotBits m → keptBit cells t i ≡ keptBit cells' t i
 unfolding keptBit
 kept-same cells cells' m each t i h l =
-    ap (λ (b : ℕ). pick (eqb (i % 2) 0) (b % 3) (b / 3)) (each (gridCell t (i / 2)) (grid-cell-lt m t (i / 2) h (omega arith)))
+    ap (λ (b : ℕ). decisionIn b i) (each (gridCell t (i / 2)) (grid-cell-lt m t (i / 2) h (omega arith)))

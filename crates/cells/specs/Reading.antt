@@ -2,16 +2,16 @@
 use mathlib.Core.Path.{_≡_}
 use mathlib.Core.Bool.{Bool, true, false, _&&_}
 use mathlib.Core.List.{List}
-use Prim.Native.Nat.{ℕ, _+_, _*_, _/_, _%_}
+use Prim.Native.Nat.{ℕ, _+_, _*_, _/_}
 use lib.Dec.{eqb}
 use lib.Ieee.{Float}
 use lib.ListN.{length, getD}
-use Rattle.rules.specs.Bits.{pick, row}
+use Rattle.rules.specs.Bits.{row}
 use Rattle.rules.specs.Slots.{slots, slotBits, symbols, symbolOf}
 use Rattle.rules.specs.Points.{zeroPart}
 use Rattle.rules.specs.Cells.{pointCell}
 use Rattle.rules.specs.Block.{inBlock}
-use Rattle.rules.specs.Pieces.{cellByte, keptBit}
+use Rattle.rules.specs.Pieces.{cellByte, decisionIn, keptBit}
 use Rattle.laws.specs.Holds.{Holds}
 
 -- the byte of cell c of two lists
@@ -28,7 +28,7 @@ abbrev pub pointByte : (ℕ → ℕ) → ℕ → ℕ → ℕ
 pointByte cells t i = cells (4096 * symbolOf t + pointCell t i)
 
 abbrev pub spreadBit : (ℕ → ℕ) → ℕ → ℕ
-spreadBit bytes i = pick (eqb (i % 2) 0) (bytes (i / 2) % 3) (bytes (i / 2) / 3)
+spreadBit bytes i = decisionIn (bytes (i / 2)) i
 
 pub record ReadRule (m : ℕ) (cells before after : List ℕ) (r : Bool) : Type 0 where
   pub answer : r ≡ (eqb (length cells) (4096 * symbols m) && eqb (length before) (slotBits m * slots m))

@@ -1,25 +1,24 @@
 -- Pieces that are fed: what they leave, and that the states which pieces leave are exactly those that 22 does not refuse.
 use mathlib.Core.Path.{_≡_, refl, sym, _∙_, ap, ap₂, subst}
-use mathlib.Core.Bool.{Bool, true, false, not, _&&_}
+use mathlib.Core.Bool.{Bool, _&&_}
 use mathlib.Core.List.{List, [], _∷_, _++_}
 use mathlib.Core.Logic.{_↔_, Iff·trans}
 use Prim.Native.Nat.{ℕ, zero, suc, _+_, _-_, _*_, _/_, _%_, _<_, _≤_}
 use native.Mathlib.Decide.{ℕ-discrete, decLt}
 use native.Mathlib.Nat.{le-of-suc-le-suc}
 use native.Mathlib.Omega.{arith}
-use lib.Dec.{T, eqb, leb, ltb, eqb→eq, leb→le, le→leb, ltb→lt, lt→ltb, lit<, lit≤}
+use lib.Dec.{T, eqb, ltb}
 use lib.Ieee.{Float, binary32, ofBits, lt}
-use lib.Ieee.Fits.{and-i, and-l, and-r, eq→eqb}
 use lib.ListN.{length, getD, replicate, length-append, length-replicate, getD-replicate, List·getD-append, List·getD-eq-default}
 use lib.Seq.{getD-append-add, ext-getD}
-use borrow.Author.Tests.{ltb-false, lt-ltb, le-ltb, le-leb, lt-leb}
-use Rattle.rules.specs.Bits.{pick, row, everyBelow}
+use borrow.Author.Tests.{lt-ltb, le-ltb, le-leb, lt-leb}
+use Rattle.rules.specs.Bits.{pick, row}
 use Rattle.rules.specs.Slots.{symbols}
 use Rattle.rules.specs.Points.{zeroPart, decide}
 use Rattle.rules.specs.Profile.{inRange}
-use Rattle.rules.specs.Answers.{isNumber, hasRead}
+use Rattle.rules.specs.Answers.{hasRead}
 use Rattle.rules.specs.Block.{Answered, Delivered}
-use Rattle.rules.specs.Pieces.{newState, seen, cellIn, cellByte, isCellByte, isState, stateBytes, feeding, fedCell, FeedRule, Fed, asking, AskRule}
+use Rattle.rules.specs.Pieces.{newState, seen, cellIn, cellByte, isState, fedCell, FeedRule, Fed, asking, AskRule}
 use Rattle.rules.specs.Demands.{LeftBy}
 use Rattle.rules.specs.declared.Profile.{Profile}
 use Rattle.rules.specs.declared.Receipt.{Receipt}

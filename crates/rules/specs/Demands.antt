@@ -145,6 +145,13 @@ pub record D2 : Type 0 where
       → length f ≡ 4096 * symbols (P .mode)
       → AskRule P marks state before after a
       → ReceiveRule P marks f s before after a
+  -- so the answer is the whole grid's, and the data too
+  pub as-whole : (P : Profile) (marks : ℕ) (f s : List Float) (state before after after' : List ℕ) (a a' : Receipt)
+      → Fed (FeedRule P) f s state
+      → length f ≡ 4096 * symbols (P .mode)
+      → AskRule P marks state before after a
+      → ReceiveRule P marks f s before after' a'
+      → (a ≡ a') × (after ≡ after')
   -- asking, where every piece was fed with the profile asked with: it reads the cells exactly where all have come and the room is right, and then
   -- accepts an unmarked packet exactly when there is such a packet
   pub ask-reads : (P : Profile) (marks : ℕ) (f s : List Float) (state before after : List ℕ) (a : Receipt)

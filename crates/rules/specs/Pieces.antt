@@ -41,6 +41,10 @@ cellByte first second = decide first + 3 * decide second
 abbrev pub isCellByte : ℕ → Bool
 isCellByte b = ltb b 9
 
+-- the decision for bit i of a slot in the byte of its cell: an even bit is the first part's
+abbrev pub decisionIn : ℕ → ℕ → ℕ
+decisionIn b i = pick (eqb (i % 2) 0) (b % 3) (b / 3)
+
 -- a state that pieces of a grid of so many cells leave: those that have come have such bytes, and the others zero
 unfoldable pub isState : ℕ → List ℕ → Bool
 isState cells state =
@@ -50,7 +54,7 @@ isState cells state =
 
 -- bit i of block slot t, still scrambled, from the bytes of the grid's cells
 unfoldable pub keptBit : (ℕ → ℕ) → ℕ → ℕ → ℕ
-keptBit cells t i = let b = cells (4096 * symbolOf t + pointCell t (i / 2)) in pick (eqb (i % 2) 0) (b % 3) (b / 3)
+keptBit cells t i = decisionIn (cells (4096 * symbolOf t + pointCell t (i / 2))) i
 
 -- ---- feeding
 

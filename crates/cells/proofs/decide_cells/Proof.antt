@@ -1,5 +1,5 @@
 -- `cells::decide_cells` meets its contract. The loop's invariant: the bytes of the cells before c are in.
-use mathlib.Core.Path.{_≡_, refl, sym, _∙_, ap, ap₂}
+use mathlib.Core.Path.{refl, sym, _∙_, ap₂}
 use mathlib.Core.Bool.{true, false, true≢false}
 use Prim.Native.Nat.{_-_, _≤_}
 use native.Mathlib.Omega.{arith}

@@ -13,7 +13,7 @@ use Rattle.rules.specs.Pieces.{keptBit}
 use Rattle.laws.specs.Holds.{Holds}
 use Rattle.laws.specs.Filled.{upTo, holds-first, holds-whole}
 use Rattle.laws.specs.Parts.{part-long, holds-part}
-use Rattle.cells.proofs.Reading.{kept-in-block, slots-lt}
+use Rattle.cells.proofs.Reading.{kept-in-block}
 use Rattle.cells.proofs.read_block.Statement.{statement}
 use Rattle.cells.proofs.read_block.Tie as tie
 

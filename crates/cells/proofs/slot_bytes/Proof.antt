@@ -1,9 +1,7 @@
 -- `cells::slot_bytes` meets its contract. The loop's invariant: the bytes of the slot's first i points are in.
-use mathlib.Core.Path.{_≡_, ap}
-use Prim.Native.Nat.{ℕ, _+_, _-_, _*_, _/_, _<_, _≤_}
+use mathlib.Core.Path.{ap}
+use Prim.Native.Nat.{ℕ, _+_, _-_, _*_, _/_, _≤_}
 use native.Mathlib.Omega.{arith}
-use lib.ListN.{length}
-use borrow.Author.Needs.{needs}
 use Rattle.rules.specs.Bits.{row}
 use Rattle.laws.specs.Holds.{Holds}
 use Rattle.laws.specs.Filled.{upTo, holds-new, holds-next, holds-whole}
@@ -29,18 +27,13 @@ point-cell-requires c κs =
     let s = c .before .before .before .before in
     (s .pre .1, omega (arith, slots-lt (s .args .mode)), omega arith)
 
--- the cell is one of the grid
-inside : (c : tie.After-point-cell Inv-loop μ-loop)
-    → let a = c .before .before .before .before .before .args in 4096 * (a .t / 7) + c .point-cell .result < length (a .cells .now)
-inside c =
-    let s = c .before .before .before .before .before in
-    omega (arith, grid-cell-lt (s .args .mode) (s .args .t) (c .before .before .loop .i) (s .pre .0) (omega arith))
-
 add-out : tie.Need-add-out Inv-loop μ-loop
 add-out c = omega (arith, slots-lt (c .before .before .before .before .before .args .mode))
 
 shared-slice-read-out : tie.Need-shared-slice-read-out Inv-loop μ-loop
-shared-slice-read-out c = inside (c .before)
+shared-slice-read-out c =
+    let s = c .before .before .before .before .before .before in
+    omega (arith, grid-cell-lt (s .args .mode) (s .args .t) (c .before .before .before .loop .i) (s .pre .0) (omega arith))
 
 array-write-out : tie.Need-array-write-out Inv-loop μ-loop
 array-write-out c = omega arith

@@ -12,7 +12,7 @@ use Rattle.rules.specs.Block.{understood, inBlock}
 use Rattle.rules.specs.Pieces.{isState, seen, cellIn, keptBit}
 use Rattle.laws.specs.Parts.{part, part-long, part-at}
 use Rattle.receiving.proofs.Numbers.{answered-refused, answered-judged}
-use Rattle.receiving.proofs.States.{is-state, grid-fits, asking-0}
+use Rattle.receiving.proofs.States.{is-state, asking-0}
 use Rattle.receiving.proofs.Judgement.{cells-judged}
 use Rattle.receiving.proofs.ask.Statement.{statement}
 use Rattle.receiving.proofs.ask.Tie as tie
