@@ -1,12 +1,11 @@
 -- What is judged goes by the block's own bits alone; and the packets' judgements, with what the outer code makes of them, are the block's.
 use mathlib.Core.Path.{_≡_, refl, sym, _∙_, ap}
 use mathlib.Core.Bool.{Bool, true, false}
-use mathlib.Core.List.{List, _++_}
+use mathlib.Core.List.{List}
 use Prim.Native.Nat.{ℕ, _+_, _*_, _/_, _%_, _<_}
 use native.Mathlib.Omega.{arith}
 use lib.Dec.{eqb}
 use lib.Ieee.{Float}
-use lib.ListN.{List·getD-append}
 use borrow.Author.Tests.{eq-eqb}
 use Rattle.rules.specs.Bits.{pick, row}
 use Rattle.rules.specs.Outer.{column, marked}
@@ -25,6 +24,7 @@ use Rattle.profile.proofs.Entries.{slots-most}
 use Rattle.turbo.specs.Blocks.{reasonAt, keptAt, WeighedTo}
 use Rattle.turbo.proofs.Weighing.{bytes-same, reason-same, kept-at}
 use Rattle.block.specs.Steps.{scrambledRow}
+use Rattle.receiving.specs.Steps.{KeptBits}
 
 -- the bits of a block are those of its 16 packets, and of its slots
 block-bits : (m : ℕ) → packetBits m * 16 ≡ slotBits m * slots m
@@ -118,14 +118,13 @@ module _ (P : Profile) (marks : ℕ) {before after : List ℕ} {a : Receipt} whe
       (λ g lt. h .each g (omega (arith, slots-most (P .mode)))
       ∙ upTo-below (understood P (row bits)) (row bits) (slotBits (P .mode) * slots (P .mode)) g lt)
 
-  -- the block's bits that were read from the cells' bytes, with room left after them
-  pub read-judged : (cells : ℕ → ℕ) (bits rest : List ℕ)
-      → Holds 0 (slotBits (P .mode) * slots (P .mode)) (inBlock (P .mode) (keptBit cells)) bits
-      → Judged P marks (understood P (row (bits ++ rest))) before after a
-      → Judged P marks (understood P (inBlock (P .mode) (keptBit cells))) before after a
-  read-judged cells bits rest h =
-      judged-same (understood P (row (bits ++ rest))) (understood P (inBlock (P .mode) (keptBit cells)))
-      (λ g lt. again P g (List·getD-append bits rest 0 g (omega (arith, h .long)) ∙ h .each g lt))
+  -- the block's bits that were read from the cells' bytes
+  pub read-judged : (cells bits : List ℕ)
+      → KeptBits (P .mode) cells bits
+      → Judged P marks (understood P (row bits)) before after a
+      → Judged P marks (understood P (inBlock (P .mode) (keptBit (row cells)))) before after a
+  read-judged cells bits h =
+      judged-same (understood P (row bits)) (understood P (inBlock (P .mode) (keptBit (row cells)))) (λ g lt. again P g (h g lt))
 
   -- where each byte is what its cell decides to, the bits are those that the grid's cells decide to
   pub kept-judged : (cells : ℕ → ℕ) (f s : List Float)

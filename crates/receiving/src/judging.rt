@@ -9,6 +9,7 @@ ghost use Rattle.rules.specs.Slots.{symbols};
 ghost use Rattle.rules.specs.Profile.{inRange};
 ghost use Rattle.rules.specs.Block.{understood, inBlock, Delivered, Judged};
 ghost use Rattle.rules.specs.Pieces.{keptBit};
+ghost use Rattle.receiving.specs.Steps.{KeptBits};
 use block::block_bits;
 use block::scrambled;
 use rules::Profile;
@@ -53,13 +54,21 @@ fn judge(p: Profile, marks: u16, bits: [u8; 48000], data: &mut [u8]) -> Receipt
     }
 }
 
+// The block's bits, still scrambled, from the bytes of a whole grid's cells.
+fn kept_bits(mode: u8, cells: &[u8]) -> [u8; 48000]
+    requires { ⌜ length (now cells) ≡ 4096 * symbols mode ⌝ }
+    ensures { λ r. ⌜ KeptBits mode (now (cells .entry)) r ⌝ }
+{
+    let n = block_bits(mode);
+    let mut bits = [0u8; 48000];
+    cells::read_block(mode, cells, &mut bits[..n]);
+    bits
+}
+
 // Judges what the cells of a whole grid decide to, and delivers the data.
 pub(crate) fn judge_cells(p: Profile, marks: u16, cells: &[u8], data: &mut [u8]) -> Receipt
     requires { ⌜ T (inRange p) × (length (now «data») ≡ 122 * p .k) × (length (now cells) ≡ 4096 * symbols (p .mode)) ⌝ }
     ensures { λ r. ⌜ Judged p marks (understood p (inBlock (p .mode) (keptBit (row (now (cells .entry)))))) (now («data» .entry)) (now («data» .exit)) r ⌝ }
 {
-    let n = block_bits(p.mode);
-    let mut bits = [0u8; 48000];
-    cells::read_block(p.mode, cells, &mut bits[..n]);
-    judge(p, marks, bits, data)
+    judge(p, marks, kept_bits(p.mode, cells), data)
 }
