@@ -37,7 +37,7 @@ extern "C" {
 #define FLO_MOST_PROFILE 245                      /* bytes of the longest profile; the other length is 181, in mode 1 */
 #define FLO_STATE 28674                           /* bytes of flo_feed's state, in both modes: 2, and one for each cell of the largest grid */
 
-/* A thread with a stack of this many bytes can make every call. As measured on x86-64, a call takes at most 120,000 of them (docs/MEASURED.md). */
+/* A thread with a stack of this many bytes can make every call. As measured on x86-64, a call takes at most 144,000 of them (docs/MEASURED.md). */
 #define FLO_STACK 262144
 
 /* Every call answers one of these numbers: the first of 1 to 5 that reading the profile finds, then the first that fits of the call's own, in the
