@@ -98,7 +98,8 @@ uint32_t flo_receive(const uint8_t *profile, size_t profile_length, uint16_t mar
    - Byte 2 + c: cell c of the grid, where cell i of symbol y is 4096 * y + i. Zero before it has come, then d1 + 3 * d2, where d1 is the decision of
      its first part and d2 that of its second: 0 above zero, 1 below zero, 2 doubtful (zero of either sign, NaN). Cells that carry nothing have
      theirs too. In mode 1 the bytes after its 5 symbols stay zero.
-   Every other state, and one of another length, is FLO_NO_SUCH_STATE. Of the profile, the state depends on the mode alone. */
+   Every other state, and one of another length, is FLO_NO_SUCH_STATE. Of the profile, the state depends on the mode alone, and a state that was fed
+   in the other mode is noticed only where it has more cells than the grid. */
 
 /* Takes a piece, which may be empty: 0, 1 to 5, 22, 7, 16. At 0 its cells are in the state, at every other number the state is as it was. */
 uint32_t flo_feed(const uint8_t *profile, size_t profile_length, uint8_t *state, size_t state_length, const float *firsts, size_t firsts_length,

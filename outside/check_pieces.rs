@@ -10,7 +10,7 @@ use crate::check_tools::{Call, Random, Room, Tally};
 use crate::library;
 use crate::plain::{self, Came, Profile, Received, CELLS, PACKETS, STATE};
 
-/// As many parts as the longest piece has.
+/// More parts than the longest piece has.
 const SPARE: usize = 1 << 17;
 
 type Piece<'a> = (&'a [f32], &'a [f32]);

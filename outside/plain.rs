@@ -1,5 +1,5 @@
-//! An independent sender and receiver, written from the text of document 01 and of document 02's Req 01 and 02 alone and in the ordinary
-//! way: log tables, precomputed addresses and places, one bit per byte. The outside tests compare the C library with it, and the
+//! An independent sender and receiver, written from the text of document 01 and of document 02's Req 01 and 02 alone (a state's bytes are
+//! flo.h's) and in the ordinary way: log tables, precomputed addresses and places, one bit per byte. The outside tests compare the C library with it, and the
 //! benchmark times the two side by side.
 //!
 //! Names are the documents'. `r` is 16 - K, `n` the slots of one packet, `p` a packet, `t` a block slot, `j` a column.

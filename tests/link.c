@@ -235,6 +235,7 @@ static void test_state(int mode, int k) {
     static const float firsts[] = {1.0f, -1.0f, -0.0f, 0.25f, NAN}, seconds[] = {0.5f, 0.5f, 0.0f, -3.0f, -INFINITY};
     static const uint8_t bytes[] = {0, 5, 0, 1, 8, 3, 5};
     static uint8_t state[FLO_STATE];
+    static float many[65536]; /* five cells and so many more are five again, to a count of 16 bits */
     struct block *b = &one;
     const size_t cells = (size_t)FLO_SYMBOLS(mode) * FLO_SYMBOL_CELLS;
     begin(b, mode, k, 7);
@@ -248,6 +249,7 @@ static void test_state(int mode, int k) {
     test("one list empty", flo_feed(b->profile, b->profile_length, b->state, FLO_STATE, firsts, 2, NULL, 0) == FLO_CELLS_LENGTH);
     send_block(b);
     test("a cell too many", feed(b, 4, cells - 4) == FLO_TOO_MANY_CELLS);
+    test("far too many", flo_feed(b->profile, b->profile_length, b->state, FLO_STATE, many, 65536, many, 65536) == FLO_TOO_MANY_CELLS);
     test("too early a question", ask(b, 0xFFFF) == FLO_CELLS_MISSING && no_answer(b) && is_painted(b->received, sizeof b->received));
     b->data_length -= 1;
     test("and with too short a room", ask(b, 0xFFFF) == FLO_DATA_LENGTH && no_answer(b) && is_painted(b->received, sizeof b->received));

@@ -1,6 +1,7 @@
 -- The demands at the ends of their bounds, by numbers written out here: the last packet, byte, bit and cell, three wrong bits, as many lost as there is
 -- parity, and one more. A demand with a narrower bound would not give these.
-use mathlib.Core.Path.{_≡_, refl, ap, ap₂, _∙_}
+use mathlib.Core.Path.{_≡_, refl, sym, ap, ap₂, _∙_}
+use mathlib.Core.Bool.{Bool, true, false}
 use mathlib.Core.List.{List}
 use mathlib.Core.Logic.{_⊎_, _↔_}
 use Prim.Native.Nat.{ℕ, suc, _+_, _-_, _*_, _/_, _%_, _<_, _≤_}
@@ -8,17 +9,20 @@ use native.Mathlib.Omega.{arith}
 use lib.Dec.{T, lit<}
 use lib.Ieee.{Float}
 use lib.ListN.{length, getD}
+use borrow.Author.Tests.{lt-ltb, eq-eqb, ne-eqb}
 use Rattle.rules.specs.Bits.{row, differ}
 use Rattle.rules.specs.Outer.{marked}
 use Rattle.rules.specs.Slots.{packetBits, symbols}
 use Rattle.rules.specs.Points.{zeroPart, firstPart, secondPart}
 use Rattle.rules.specs.Profile.{inRange}
-use Rattle.rules.specs.Answers.{isReason, hasRead}
+use Rattle.rules.specs.Answers.{isReason}
 use Rattle.rules.specs.Block.{Cells, sentCell, SendRule, SendSymbolRule, Accepted, ReceiveRule}
-use Rattle.rules.specs.Pieces.{FeedRule, AskRule, Fed}
+use Rattle.rules.specs.Pieces.{seen, isState, asking, FeedRule, AskRule, Fed}
 use Rattle.rules.specs.Demands.{bitInPlace, heardInPlace, sentInPlace, Doubtful, Lost, Members}
 use Rattle.rules.specs.declared.Profile.{Profile}
 use Rattle.rules.specs.declared.Receipt.{Receipt}
+use Rattle.receiving.proofs.States.{is-state, passes}
+use Rattle.receiving.proofs.Fed.{Left, fed-left, left-state}
 use Rattle.card.proofs.D1.{d1}
 use Rattle.card.proofs.D2.{d2}
 use Rattle.card.proofs.D3.{d3}
@@ -34,24 +38,48 @@ pub last-asked : (P : Profile) (marks : ℕ) (state before after : List ℕ) (a 
     → T (isReason (row (a .reasons) 15))
 last-asked P marks state before after a r = d1 .ask P marks state before after a r .1 15 (lit< tt)
 
--- the piece that ends with the grid's last cell is taken, and one of a cell more is not
-pub to-the-end : (P : Profile) (f s f' s' : List Float) (before after : List ℕ) (n : ℕ)
-    → T (inRange P)
-    → Fed (FeedRule P) f s before
-    → FeedRule P f' s' before after n
-    → length f' ≡ length s'
-    → ((length f + length f' ≡ 4096 * symbols (P .mode)) → n ≡ 0) × ((length f + length f' ≡ 4096 * symbols (P .mode) + 1) → ¬ (n ≡ 0))
-to-the-end P f s f' s' before after n t h r e =
-    let iff = d2 .takes P f s f' s' before after n t h r in
-    ((λ q. iff .1 (e, omega arith)), λ q z. omega (arith, iff .0 z .1))
+-- after pieces that were fed, and with a profile in its range
+module _ (P : Profile) (f s : List Float) (state : List ℕ) (t : T (inRange P)) (h : Fed (FeedRule P) f s state) where
+  range : inRange P ≡ true
+  range = sym (said (inRange P) t)
+    where
+      said : (b : Bool) → T b → true ≡ b
+      said true u = refl
+      said false u = absurd u
 
--- with all cells but one the cells are not read
-pub one-cell-early : (P : Profile) (marks : ℕ) (f s : List Float) (state before after : List ℕ) (a : Receipt)
-    → Fed (FeedRule P) f s state
-    → AskRule P marks state before after a
-    → length f + 1 ≡ 4096 * symbols (P .mode)
-    → ¬ T (hasRead (a .number))
-one-cell-early P marks f s state before after a h r e t = omega (arith, d2 .ask-reads P marks f s state before after a h r .0 t .2)
+  left : Left P f s state
+  left = fed-left P h
+
+  good : isState (4096 * symbols (P .mode)) state ≡ true
+  good = sym (passes _ state (is-state _ state .0 (left-state P left)))
+
+  module _ (f' s' : List Float) (after : List ℕ) (n : ℕ) (r : FeedRule P f' s' state after n) where
+    -- the piece that ends with the grid's last cell is taken, and one of a cell more is 16
+    pub to-the-end : length f' ≡ length s' → length f + length f' ≡ 4096 * symbols (P .mode) → n ≡ 0
+    to-the-end e q = d2 .takes P f s f' s' state after n t h r .1 (e, omega arith)
+
+    pub one-cell-past : length f' ≡ length s' → length f + length f' ≡ 4096 * symbols (P .mode) + 1 → n ≡ 16
+    one-cell-past e q =
+        let past : 4096 * symbols (P .mode) < seen state + length f' = omega (arith, left .firsts) in
+        r .answer ∙ rw (range, good, eq-eqb _ _ e, lt-ltb _ _ past)
+
+    -- lists of two lengths are 7, also past the end
+    pub unequal : ¬ (length f' ≡ length s') → n ≡ 7
+    unequal ne = r .answer ∙ rw (range, good, ne-eqb _ _ ne)
+
+  module _ (marks : ℕ) (before after : List ℕ) (a : Receipt) (r : AskRule P marks state before after a) where
+    -- a number other than 0 that comes first is the answer's
+    said-first : (q : ℕ) → ¬ (q ≡ 0) → asking P state (length before) ≡ q → a .number ≡ q
+    said-first q ne e = ap (λ (b : Receipt). b .number) (r .refused (λ z. ne (sym e ∙ z)) .0) ∙ e
+
+    -- a wrong room is 6, also where cells are missing; with all cells but one it is 17
+    pub wrong-room : ¬ (length before ≡ 122 * P .k) → a .number ≡ 6
+    wrong-room ne = said-first 6 (λ z. omega arith) (rw (range, good, ne-eqb _ _ ne))
+
+    pub one-cell-early : length before ≡ 122 * P .k → length f + 1 ≡ 4096 * symbols (P .mode) → a .number ≡ 17
+    one-cell-early e q =
+        let early : seen state < 4096 * symbols (P .mode) = omega (arith, left .firsts) in
+        said-first 17 (λ z. omega arith) (rw (range, good, eq-eqb _ _ e, lt-ltb _ _ early))
 
 -- cell 4095 of the last symbol y is the rules'
 pub last-cell : (P : Profile) (d : List ℕ) (f s f' s' : List Float) (y : ℕ)

@@ -9,13 +9,13 @@ use lib.Ieee.{Float}
 use Rattle.rules.specs.Bits.{pick}
 use Rattle.rules.specs.Slots.{packetBits, slots, symbols, symbolOf}
 use Rattle.rules.specs.Points.{firstPart, secondPart}
-use Rattle.rules.specs.Cells.{pointCell}
+use Rattle.rules.specs.Cells.{pointCell, gridCell}
 use Rattle.rules.specs.Profile.{inRange}
 use Rattle.rules.specs.Block.{Cells, sentBit, sentCell, heard}
 use Rattle.rules.specs.Demands.{heardInPlace, sentInPlace}
 use Rattle.rules.specs.declared.Profile.{Profile}
 use Rattle.cells.proofs.Inverse.{point-cell-lt}
-use Rattle.cells.proofs.Deciding.{gridCell, heard-sent}
+use Rattle.cells.proofs.Deciding.{heard-sent}
 use Rattle.block.proofs.Ranges.{ranges}
 
 bit-lt : (P : Profile) (d : List ℕ) (t i : ℕ) → sentBit P d t i < 2

@@ -75,7 +75,7 @@ module _ (P : Profile) (marks : ℕ) (before : List ℕ) where
       fits = subst (λ (l : ℕ). l < 2 ^ 16) (sym (x .lost-is)) (mask-lt (row (a .reasons)) 16)
 
   -- a refusal is silent, and else the same bits are judged
-  pub one-answer : (n : ℕ) → (n ≡ 0 → T (inRange P)) → (v : ℕ → ℕ) (after after' : List ℕ) (a b : Receipt)
+  one-answer : (n : ℕ) → (n ≡ 0 → T (inRange P)) → (v : ℕ → ℕ) (after after' : List ℕ) (a b : Receipt)
       → Answered P marks n v before after a
       → Answered P marks n v before after' b
       → (a ≡ b) × (after ≡ after')

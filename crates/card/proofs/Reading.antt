@@ -1,10 +1,9 @@
 -- When receiving reads the cells, what it leaves where it doesn't, and that it looks at the block's own cells only.
-use mathlib.Core.Path.{_≡_, refl, sym, ap, ap₂, subst, _∙_}
+use mathlib.Core.Path.{_≡_, refl, sym, ap, ap₂, _∙_}
 use mathlib.Core.Bool.{Bool, true, false, not, _&&_}
 use mathlib.Core.List.{List}
 use mathlib.Core.Logic.{_↔_}
 use Prim.Native.Nat.{ℕ, _*_, _/_, _%_, _<_}
-use native.Mathlib.Decide.{ℕ-discrete}
 use native.Mathlib.Omega.{arith}
 use lib.Dec.{T, eqb}
 use lib.Ieee.{Float}
@@ -13,24 +12,26 @@ use Rattle.rules.specs.Bits.{pick}
 use Rattle.rules.specs.Slots.{slotBits, slots, symbols}
 use Rattle.rules.specs.Profile.{inRange}
 use Rattle.rules.specs.Answers.{hasRead}
-use Rattle.rules.specs.Block.{early, heard, decided, scrambler, unscrambled, silence, Accepted, Answered, ReceiveRule}
+use Rattle.rules.specs.Block.{early, heard, decided, silence, Accepted, Answered, ReceiveRule}
 use Rattle.rules.specs.declared.Profile.{Profile}
 use Rattle.rules.specs.declared.Receipt.{Receipt}
 use Rattle.block.proofs.Passed.{early-right}
-use Rattle.receiving.proofs.Judgement.{judged-same}
-use Rattle.receiving.proofs.Fed.{delivered-read}
+use Rattle.receiving.proofs.Judgement.{again, judged-same}
+use Rattle.receiving.proofs.Fed.{delivered-read, read-first}
 use Rattle.card.proofs.OneAnswer.{one-receipt}
 
 -- of the numbers that come first only 0 is one at which the cells are read
-early-read : (P : Profile) (bytes firsts seconds cells : ℕ) → T (hasRead (early P bytes firsts seconds cells)) → early P bytes firsts seconds cells ≡ 0
+early-read : (P : Profile) (bytes firsts seconds cells : ℕ)
+    → ¬ (early P bytes firsts seconds cells ≡ 0)
+    → ¬ T (hasRead (early P bytes firsts seconds cells))
 early-read P bytes firsts seconds cells =
     go (not (inRange P)) (not (eqb bytes (122 * P .k))) (not (eqb firsts cells && eqb seconds cells))
   where
-    go : (a b c : Bool) → T (hasRead (pick a 4 (pick b 6 (pick c 7 0)))) → pick {A = ℕ} a 4 (pick b 6 (pick c 7 0)) ≡ 0
-    go true b c t = absurd t
-    go false true c t = absurd t
-    go false false true t = absurd t
-    go false false false t = refl
+    go : (a b c : Bool) → ¬ (pick {A = ℕ} a 4 (pick b 6 (pick c 7 0)) ≡ 0) → ¬ T (hasRead (pick a 4 (pick b 6 (pick c 7 0))))
+    go true b c ne t = t
+    go false true c ne t = t
+    go false false true ne t = t
+    go false false false ne t = ne refl
 
 -- where no cells are read, nothing is said of the packets
 pub nothing-accepted : (P : Profile) (marks n : ℕ) (v : ℕ → ℕ) (before after : List ℕ) (a : Receipt)
@@ -41,26 +42,15 @@ nothing-accepted P marks n v before after a r ne =
     let e = r .refused (λ z. ne (delivered-read (r .judged z .delivered))) .0 in
     (ap (λ (b : Receipt). b .lost) e, ap (λ (b : Receipt). b .reasons) e, λ p x. ne (x .0))
 
-module _ (P : Profile) (marks : ℕ) (f s : List Float) (before after : List ℕ) (a : Receipt) (r : ReceiveRule P marks f s before after a) where
-  first : ℕ
-  first = early P (length before) (length f) (length s) (4096 * symbols (P .mode))
-
-  read-first : T (hasRead (a .number)) → first ≡ 0
-  unfolding first
-  read-first t = go (ℕ-discrete first 0)
-    where
-      go : Dec (first ≡ 0) → first ≡ 0
-      go (yes z) = z
-      go (no ne) =
-          early-read P (length before) (length f) (length s) (4096 * symbols (P .mode))
-          (subst (λ (b : Receipt). T (hasRead (b .number))) (r .refused ne .0) t)
-
-  pub reads : T (hasRead (a .number))
-      ↔ (T (inRange P) × (length before ≡ 122 * P .k) × (length f ≡ 4096 * symbols (P .mode)) × (length s ≡ 4096 * symbols (P .mode)))
-  unfolding first
-  reads =
-      let iff = early-right P (length before) (length f) (length s) (4096 * symbols (P .mode)) in
-      ((λ t. iff .0 (read-first t)), λ q. delivered-read (r .judged (iff .1 q) .delivered))
+pub reads : (P : Profile) (marks : ℕ) (f s : List Float) (before after : List ℕ) (a : Receipt)
+    → ReceiveRule P marks f s before after a
+    → T (hasRead (a .number))
+    ↔ (T (inRange P) × (length before ≡ 122 * P .k) × (length f ≡ 4096 * symbols (P .mode)) × (length s ≡ 4096 * symbols (P .mode)))
+reads P marks f s before after a r =
+    let iff = early-right P (length before) (length f) (length s) (4096 * symbols (P .mode)) in (
+      (λ t. iff .0 (read-first r (early-read P (length before) (length f) (length s) (4096 * symbols (P .mode))) t)),
+      λ q. delivered-read (r .judged (iff .1 q) .delivered),
+    )
 
 module _ (P : Profile) (marks : ℕ) (f s f' s' : List Float) (before : List ℕ) (firsts : length f ≡ length f') (seconds : length s ≡ length s')
     (alike : (t i : ℕ) → t < slots (P .mode) → i < slotBits (P .mode) → heard f s t i ≡ heard f' s' t i) where
@@ -81,8 +71,7 @@ module _ (P : Profile) (marks : ℕ) (f s f' s' : List Float) (before : List ℕ
 
       bit : (g : ℕ) → g < slotBits (P .mode) * slots (P .mode) → decided P f s g ≡ decided P f' s' g
       bit g lt =
-          ap (λ (b : ℕ). unscrambled b (scrambler P (g / slotBits (P .mode)) (g % slotBits (P .mode))))
-          (alike (g / slotBits (P .mode)) (g % slotBits (P .mode)) (omega arith) (omega arith))
+          again P g (alike (g / slotBits (P .mode)) (g % slotBits (P .mode)) (omega arith) (omega arith))
 
   pub own-cells : (after after' : List ℕ) (a a' : Receipt)
       → ReceiveRule P marks f s before after a

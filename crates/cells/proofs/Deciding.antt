@@ -16,7 +16,7 @@ use Rattle.rules.specs.Bits.{pick}
 use Rattle.rules.specs.Slots.{slots, symbolOf}
 use Rattle.rules.specs.Points.{part, firstPart, secondPart, decide, zeroPart, doubtful}
 use Rattle.rules.specs.Profile.{isLevel}
-use Rattle.rules.specs.Cells.{pointCell, carried}
+use Rattle.rules.specs.Cells.{pointCell, gridCell, carried}
 use Rattle.rules.specs.Block.{cellFor, heard, partOf}
 use Rattle.rules.specs.declared.Cell.{Cell}
 use Rattle.rules.specs.declared.Carried.{Carried}
@@ -64,10 +64,7 @@ decide-part level b h l = go (ℕ-discrete b 1)
     go (yes e) = simp (eq-eqb b 1 e) (decide-below level (above-level level h) ∙ sym e)
     go (no n) = simp (ne-eqb b 1 n) (decide-above level (above-level level h) ∙ omega arith)
 
--- the cell, in the whole grid, of point i of block slot t; two lists that agree at a block's own cells
-abbrev pub gridCell : ℕ → ℕ → ℕ
-gridCell t i = 4096 * symbolOf t + pointCell t i
-
+-- two lists that agree at a block's own cells
 abbrev pub SameAt : ℕ → List Float → List Float → Type 0
 SameAt m f g = (t i : ℕ) → t < slots m → i < 500 → getD f (gridCell t i) zeroPart ≡ getD g (gridCell t i) zeroPart
 

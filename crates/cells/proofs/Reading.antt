@@ -13,12 +13,13 @@ use Rattle.rules.specs.Bits.{pick}
 use Rattle.rules.specs.Slots.{slots, slotBits, symbols}
 use Rattle.rules.specs.Points.{zeroPart, decide}
 use Rattle.rules.specs.Block.{heard, inBlock, partOf}
-use Rattle.rules.specs.Pieces.{decisionIn, keptBit}
+use Rattle.rules.specs.Pieces.{byteAt, decisionIn, keptBit}
 use Rattle.laws.specs.Holds.{Holds}
 use Rattle.laws.specs.Filled.{upTo, holds-next}
 use Rattle.cells.proofs.Inverse.{point-cell-lt}
-use Rattle.cells.proofs.Deciding.{decide-lt, gridCell}
-use Rattle.cells.specs.Reading.{byteAt, pointByte, spreadBit}
+use Rattle.rules.specs.Cells.{gridCell}
+use Rattle.cells.proofs.Deciding.{decide-lt}
+use Rattle.cells.specs.Reading.{pointByte, spreadBit}
 
 pub slots-lt : (m : ℕ) → slots m < 4096
 slots-lt m = go (eqb m 0)
@@ -89,7 +90,7 @@ module _ (cells : ℕ → ℕ) where
       go (yes e) = simp (eq-eqb (i % 2) 0 e) first
       go (no e) = simp (ne-eqb (i % 2) 0 e) second
 
--- the bits go by the bytes of the block's own cells
+-- the bits go by the bytes of the grid's cells
 pub kept-same : (cells cells' : ℕ → ℕ) (m : ℕ) → ((c : ℕ) → c < 4096 * symbols m → cells c ≡ cells' c)
     → (t i : ℕ) → t < slots m → i < slotBits m → keptBit cells t i ≡ keptBit cells' t i
 unfolding keptBit

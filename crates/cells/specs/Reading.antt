@@ -2,21 +2,16 @@
 use mathlib.Core.Path.{_≡_}
 use mathlib.Core.Bool.{Bool, true, false, _&&_}
 use mathlib.Core.List.{List}
-use Prim.Native.Nat.{ℕ, _+_, _*_, _/_}
+use Prim.Native.Nat.{ℕ, _*_, _/_}
 use lib.Dec.{eqb}
 use lib.Ieee.{Float}
-use lib.ListN.{length, getD}
+use lib.ListN.{length}
 use Rattle.rules.specs.Bits.{row}
-use Rattle.rules.specs.Slots.{slots, slotBits, symbols, symbolOf}
-use Rattle.rules.specs.Points.{zeroPart}
-use Rattle.rules.specs.Cells.{pointCell}
+use Rattle.rules.specs.Slots.{slots, slotBits, symbols}
+use Rattle.rules.specs.Cells.{gridCell}
 use Rattle.rules.specs.Block.{inBlock}
-use Rattle.rules.specs.Pieces.{cellByte, decisionIn, keptBit}
+use Rattle.rules.specs.Pieces.{byteAt, decisionIn, keptBit}
 use Rattle.laws.specs.Holds.{Holds}
-
--- the byte of cell c of two lists
-abbrev pub byteAt : List Float → List Float → ℕ → ℕ
-byteAt firsts seconds c = cellByte (getD firsts c zeroPart) (getD seconds c zeroPart)
 
 pub record DecideRule (firsts seconds : List Float) (before after : List ℕ) (r : Bool) : Type 0 where
   pub answer : r ≡ (eqb (length firsts) (length before) && eqb (length seconds) (length before))
@@ -25,7 +20,7 @@ pub record DecideRule (firsts seconds : List Float) (before after : List ℕ) (r
 
 -- the byte of point i of block slot t, among those of the grid's cells; and bit i of such bytes, two for each
 abbrev pub pointByte : (ℕ → ℕ) → ℕ → ℕ → ℕ
-pointByte cells t i = cells (4096 * symbolOf t + pointCell t i)
+pointByte cells t i = cells (gridCell t i)
 
 abbrev pub spreadBit : (ℕ → ℕ) → ℕ → ℕ
 spreadBit bytes i = decisionIn (bytes (i / 2)) i

@@ -76,7 +76,7 @@ pub fn decide(part: f32) -> u8
 }
 
 pub fn decide_point(p: Point) -> Decision
-    ensures { λ r. ⌜ (r .s0 ≡ points.decide (p .first)) × (r .s1 ≡ points.decide (p .second)) ⌝ }
+    ensures { λ r. ⌜ (r .s0 ≡ points.decide (p .first)) × (r .s1 ≡ points.decide (p .second)) × (r .s0 < 3) × (r .s1 < 3) ⌝ }
 {
     Decision {
         s0: decide(p.first),
@@ -101,7 +101,7 @@ fn in_grid(mode: u8, symbol: usize) -> bool
     symbol < (slot_count(mode) + 6) / 7
 }
 
-// The places of a slot's points, and the points at the places: to be had once for all cells of a symbol, since each call copies the table.
+// The places of a slot's points, and the points at the places: to be had once for a symbol or a block, since each call copies the table.
 fn places() -> [u16; 500]
     ensures { λ r. ⌜ Places r ⌝ }
 {
@@ -308,7 +308,8 @@ fn point_in(firsts: &[f32], seconds: &[f32], c: usize) -> Point
 fn cell_byte(p: Point) -> u8
     ensures { λ r. ⌜ r ≡ cellByte (p .first) (p .second) ⌝ }
 {
-    decide(p.first) + 3 * decide(p.second)
+    let d = decide_point(p);
+    d.s0 + 3 * d.s1
 }
 
 // What each cell decides to, in a byte each. Answers whether the lists are of one length; else nothing is written.

@@ -11,8 +11,7 @@ use lib.ListN.{take}
 use Rattle.rules.specs.Bits.{row}
 use Rattle.rules.specs.Answers.{hasRead}
 use Rattle.rules.specs.Profile.{inRange, reading, writing}
-use Rattle.rules.specs.Pieces.{FeedRule, Fed}
-use Rattle.rules.specs.Demands as Said
+use Rattle.rules.specs.Pieces.{FeedRule, Fed, LeftBy}
 use Rattle.rules.specs.declared.Profile.{Profile}
 use Rattle.rules.specs.declared.Reading.{Reading}
 use Rattle.rules.specs.declared.Writing.{Writing}
@@ -20,7 +19,7 @@ use Rattle.profile.proofs.RoundTrip.{read-most, unread}
 use Rattle.card.proofs.D2.{d2}
 use Rattle.card.proofs.D3.{d3}
 use Rattle.flo.specs.Calls.{AfterReading, FloFeed}
-use Rattle.flo.specs.Demands.{said, LeftBy, CallsRight, CallsBring}
+use Rattle.flo.specs.Demands.{said, CallsRight, CallsBring}
 use Rattle.flo.proofs.Demands.{by-reading}
 
 -- bytes that read well say a profile in range
@@ -68,8 +67,8 @@ not-22 profile n e q = absurd (omega (arith, read-most profile))
 left-said : (profile state : List ℕ) (n : ℕ)
     → ((i : ℕ) → row profile i < 256)
     → (n ≡ 22 → reading profile .number ≡ 0)
-    → (reading profile .number ≡ 0 → (n ≡ 22) ↔ (T (inRange (said profile)) × ¬ Said.LeftBy (said profile) state))
-    → (n ≡ 22) ↔ ((reading profile .number ≡ 0) × ¬ LeftBy profile state)
+    → (reading profile .number ≡ 0 → (n ≡ 22) ↔ (T (inRange (said profile)) × ¬ LeftBy (FeedRule (said profile)) state))
+    → (n ≡ 22) ↔ ((reading profile .number ≡ 0) × ¬ LeftBy (FloFeed profile) state)
 left-said profile state n bytes read iff = (
   (λ e.
       let z = read e in

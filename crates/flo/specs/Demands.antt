@@ -13,7 +13,7 @@ use Rattle.rules.specs.Slots.{symbols}
 use Rattle.rules.specs.Profile.{Shape, reading, largest}
 use Rattle.rules.specs.Answers.{isNumber, isReason, hasRead}
 use Rattle.rules.specs.Block.{Cells}
-use Rattle.rules.specs.Pieces.{Fed}
+use Rattle.rules.specs.Pieces.{Fed, LeftBy}
 use Rattle.rules.specs.Demands.{SomePacket, Fair, BringsBack}
 use Rattle.rules.specs.declared.Profile.{Profile}
 use Rattle.flo.specs.Calls.{FloSend, FloSendSymbol, FloReceive, FloFeed, FloAsk, FloReadProfile, FloWriteProfile, FloParity}
@@ -90,10 +90,6 @@ Fitting profile bytes firsts seconds =
     (reading profile .number ≡ 0) × (bytes ≡ 122 * said profile .k)
     × (firsts ≡ 4096 * symbols (said profile .mode)) × (seconds ≡ 4096 * symbols (said profile .mode))
 
--- some pieces, fed with these bytes of a profile from the new state on, leave the state
-abbrev pub LeftBy : List ℕ → List ℕ → Type 0
-LeftBy profile state = (f : List Float) × (s : List Float) × Fed (FloFeed profile) f s state
-
 -- The cells are those of the rules; a packet is accepted exactly when some packet has the bits; a profile is read and written by the same rules
 pub record CallsRight : Type 0 where
   pub cells : (profile d : List ℕ) (f s f' s' : List Float) (n : ℕ)
@@ -128,12 +124,12 @@ pub record CallsRight : Type 0 where
       → ((i : ℕ) → row profile i < 256)
       → ((i : ℕ) → row before i < 256)
       → FloFeed profile f s before after n
-      → (n ≡ 22) ↔ ((reading profile .number ≡ 0) × ¬ LeftBy profile before)
+      → (n ≡ 22) ↔ ((reading profile .number ≡ 0) × ¬ LeftBy (FloFeed profile) before)
   pub ask-22 : (profile : List ℕ) (marks : ℕ) (state before after : List ℕ) (lost : ℕ) (reasons : List ℕ) (n : ℕ)
       → ((i : ℕ) → row profile i < 256)
       → ((i : ℕ) → row state i < 256)
       → FloAsk profile marks state before after lost reasons n
-      → (n ≡ 22) ↔ ((reading profile .number ≡ 0) × ¬ LeftBy profile state)
+      → (n ≡ 22) ↔ ((reading profile .number ≡ 0) × ¬ LeftBy (FloFeed profile) state)
   -- after pieces that were fed, every piece is taken that has lists of one length and ends within the grid, and no other
   pub takes : (profile : List ℕ) (f s f' s' : List Float) (before after : List ℕ) (n : ℕ)
       → ((i : ℕ) → row profile i < 256)

@@ -1,6 +1,6 @@
 // How the programs speak, and what they share on their input and output. What each writes on standard error has one of four forms, by which `bin/` knows the exit status:
 //
-//     N words                          a refusal: document 01's number, and what it means
+//     N words                          a refusal: the documents' number, and what it means
 //     profile_text: line N: words      a refused text; `profile_text: text: words` where no line is at fault
 //     NAME: cannot words               trouble: input that can't be read, output that can't be written
 //     usage: words                     words that the program does not take
@@ -107,7 +107,7 @@ pub fn is_unread(program: &[u8]) -> bool {
     fails
 }
 
-// What document 01 says of a number.
+// What the documents say of a number.
 fn meaning(out: &mut [u8], at: usize, number: u32) -> usize {
     match number {
         1 => put::bytes(out, at, b"profile ends inside a field"),

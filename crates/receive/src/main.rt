@@ -12,7 +12,7 @@ use manners::put;
 use rules::Profile;
 use rules::Receipt;
 
-// No number of document 01: the input can't be read, which was said.
+// No number of the documents: the input can't be read, which was said.
 const UNREAD: u32 = u32::MAX;
 
 // Bytes of one symbol's first parts, or second parts.

@@ -18,8 +18,7 @@ use Rattle.rules.specs.Points.{zeroPart, decide}
 use Rattle.rules.specs.Profile.{inRange}
 use Rattle.rules.specs.Answers.{hasRead}
 use Rattle.rules.specs.Block.{Answered, Delivered}
-use Rattle.rules.specs.Pieces.{newState, seen, cellIn, cellByte, isState, fedCell, FeedRule, Fed, asking, AskRule}
-use Rattle.rules.specs.Demands.{LeftBy}
+use Rattle.rules.specs.Pieces.{newState, seen, cellIn, cellByte, isState, byteAt, fedCell, Put, FeedRule, Fed, LeftBy, asking, AskRule}
 use Rattle.rules.specs.declared.Profile.{Profile}
 use Rattle.rules.specs.declared.Receipt.{Receipt}
 use Rattle.cells.proofs.Deciding.{decide-lt}
@@ -35,26 +34,26 @@ zeros n i = go (decLt i n)
     go (yes l) = getD-replicate n i 0 0 l
     go (no l) = List·getD-eq-default (replicate n 0) 0 {n = i} (omega (arith, length-replicate {A = ℕ} n 0))
 
-pub new-long : length newState ≡ 28674
+new-long : length newState ≡ 28674
 unfolding newState
 new-long = length-replicate {A = ℕ} 28674 0
 
-pub new-row : (i : ℕ) → row newState i ≡ 0
+new-row : (i : ℕ) → row newState i ≡ 0
 unfolding newState
 new-row i = zeros 28674 i
 
-pub new-seen : seen newState ≡ 0
+new-seen : seen newState ≡ 0
 new-seen = omega (arith, new-row 0, new-row 1)
 
 -- the byte of a cell that had come before the piece, comes in it, or has not come yet
 module _ (n : ℕ) (f s : List Float) (before : ℕ → ℕ) (c : ℕ) where
   abbrev fedAs : Bool → ℕ
-  fedAs b = pick b (cellByte (getD f (c - n) zeroPart) (getD s (c - n) zeroPart)) (before c)
+  fedAs b = pick b (byteAt f s (c - n)) (before c)
 
   pub fed-before : c < n → fedCell n f s before c ≡ before c
   fed-before h = ap (λ (b : Bool). fedAs (b && ltb c (n + length f))) (lt-leb n c h)
 
-  pub fed-in : n ≤ c → c < n + length f → fedCell n f s before c ≡ cellByte (getD f (c - n) zeroPart) (getD s (c - n) zeroPart)
+  pub fed-in : n ≤ c → c < n + length f → fedCell n f s before c ≡ byteAt f s (c - n)
   fed-in h l = ap₂ (λ (a b : Bool). fedAs (a && b)) (le-leb n c h) (lt-ltb c (n + length f) l)
 
   pub fed-after : n ≤ c → n + length f ≤ c → fedCell n f s before c ≡ before c
@@ -92,6 +91,17 @@ delivered-read (Delivered.whole few w agree long is) = tt
 delivered-read (Delivered.tooMany many e) = tt
 delivered-read (Delivered.noCodeword few j l none e) = tt
 
+-- where the cells were read, no number came first
+pub read-first : {P : Profile} {marks n : ℕ} {v : ℕ → ℕ} {before after : List ℕ} {a : Receipt} → Answered P marks n v before after a
+    → (¬ (n ≡ 0) → ¬ T (hasRead n))
+    → T (hasRead (a .number))
+    → n ≡ 0
+read-first {n = n} r first t = go (ℕ-discrete n 0)
+  where
+    go : Dec (n ≡ 0) → n ≡ 0
+    go (yes z) = z
+    go (no ne) = absurd (first ne (subst (λ (b : Receipt). T (hasRead (b .number))) (r .refused ne .0) t))
+
 module _ (P : Profile) where
   -- how many cells the grid has
   abbrev grid : ℕ
@@ -105,9 +115,7 @@ module _ (P : Profile) where
     pub firsts : seen state ≡ length f
     pub seconds : length s ≡ length f
     pub within : length f ≤ grid
-    pub low : row state 1 < 256
-    pub high : row state 0 < 256
-    pub come : (c : ℕ) → c < length f → cellIn state c ≡ cellByte (getD f c zeroPart) (getD s c zeroPart)
+    pub come : (c : ℕ) → c < length f → cellIn state c ≡ byteAt f s c
     pub rest : (c : ℕ) → length f ≤ c → 2 + c < 28674 → cellIn state c ≡ 0
 
   left-new : Left [] [] newState
@@ -117,8 +125,6 @@ module _ (P : Profile) where
         firsts = new-seen;
         seconds = refl;
         within = omega arith;
-        low = omega (arith, new-row 1);
-        high = omega (arith, new-row 0);
         come = λ c h. absurd (omega arith);
         rest = λ c h l. new-row (2 + c);
       }
@@ -127,18 +133,19 @@ module _ (P : Profile) where
   left-piece f s f' s' before after w r =
       record {
         long = r .long ∙ w .long;
-        firsts = omega (arith, r .high refl, r .low refl, length-append f f');
+        firsts = omega (arith, put .high, put .low, length-append f f');
         seconds = omega (arith, t .2, length-append f f', length-append s s');
         within = omega (arith, t .3, length-append f f');
-        low = omega (arith, r .low refl);
-        high = omega (arith, r .high refl, t .3, grid-fits (P .mode));
         come = λ c h. go c (omega (arith, length-append f f')) (decLt c (length f));
         rest = λ c h l.
-            r .cells refl c l
+            put .cells c l
             ∙ fed-after (seen before) f' s' (cellIn before) c (omega (arith, length-append f f')) (omega (arith, length-append f f'))
             ∙ w .rest c (omega (arith, length-append f f')) l;
       }
     where
+      put : Put f' s' before after
+      put = r .taken refl
+
       t : T (inRange P) × T (isState grid before) × (length f' ≡ length s') × (seen before + length f' ≤ grid)
       t = feeding-taken P before (length f') (length s') .0 (sym (r .answer))
 
@@ -151,11 +158,11 @@ module _ (P : Profile) where
           → Dec (c < length f)
           → cellIn after c ≡ cellByte (getD (f ++ f') c zeroPart) (getD (s ++ s') c zeroPart)
       go c h (yes l) =
-          r .cells refl c (omega (arith, grid-fits (P .mode)))
+          put .cells c (omega (arith, grid-fits (P .mode)))
           ∙ fed-before (seen before) f' s' (cellIn before) c (omega arith) ∙ w .come c l
           ∙ sym (ap₂ cellByte (List·getD-append f f' zeroPart c l) (List·getD-append s s' zeroPart c (omega arith)))
       go c h (no l) =
-          r .cells refl c (omega (arith, t .3, grid-fits (P .mode)))
+          put .cells c (omega (arith, t .3, grid-fits (P .mode)))
           ∙ fed-in (seen before) f' s' (cellIn before) c (omega arith) (omega arith)
           ∙ sym (ap₂ cellByte (past f f' c (c - seen before) (omega arith)) (past s s' c (c - seen before) (omega arith)))
 
@@ -173,7 +180,7 @@ module _ (P : Profile) where
         rest = λ c h l. w .rest c (omega arith) l;
       })
 
-  pub fed-state : {f s : List Float} {state : List ℕ} → Fed (FeedRule P) f s state → T (isState grid state)
+  fed-state : {f s : List Float} {state : List ℕ} → Fed (FeedRule P) f s state → T (isState grid state)
   fed-state h = left-state (fed-left h)
 
   -- ---- 22 exactly
@@ -224,29 +231,28 @@ module _ (P : Profile) where
               sym (feeding-taken P newState (length firsts) (length seconds) .1
               (range, left-state left-new, firsts-long ∙ sym seconds-long, omega (arith, new-seen, firsts-long)));
           long = w .long ∙ sym new-long;
-          high = λ z. omega (arith, new-seen, firsts-long);
-          low = λ z. omega (arith, new-seen, firsts-long);
-          cells = λ z. made-cell;
+          taken = λ z.
+              record { high = omega (arith, new-seen, firsts-long); low = omega (arith, new-seen, firsts-long); cells = made-cell };
           kept = λ ne. absurd (ne refl);
         }
 
   module _ (state : List ℕ) (bytes : (i : ℕ) → row state i < 256) where
-    pub state-fed : T (inRange P) → T (isState grid state) → LeftBy P state
+    state-fed : T (inRange P) → T (isState grid state) → LeftBy (FeedRule P) state
     state-fed range t =
         let w = is-state grid state .0 t in
         (firsts state w, seconds state w, Fed.piece [] [] (firsts state w) (seconds state w) newState state Fed.new (made-rule state w range (bytes 1)))
 
     -- so the test passes exactly the states that pieces leave
-    pub left-by : T (inRange P) → T (isState grid state) ↔ LeftBy P state
+    left-by : T (inRange P) → T (isState grid state) ↔ LeftBy (FeedRule P) state
     left-by range = (state-fed range, λ l. fed-state (l .2))
 
-    not-left : (T (inRange P) × ¬ T (isState grid state)) ↔ (T (inRange P) × ¬ LeftBy P state)
+    not-left : (T (inRange P) × ¬ T (isState grid state)) ↔ (T (inRange P) × ¬ LeftBy (FeedRule P) state)
     not-left = ((λ q. (q .0, λ l. q .1 (left-by (q .0) .1 l))), λ q. (q .0, λ t. q .1 (left-by (q .0) .0 t)))
 
   pub feed-22 : (f s : List Float) (before after : List ℕ) (n : ℕ)
       → ((i : ℕ) → row before i < 256)
       → FeedRule P f s before after n
-      → (n ≡ 22) ↔ (T (inRange P) × ¬ LeftBy P before)
+      → (n ≡ 22) ↔ (T (inRange P) × ¬ LeftBy (FeedRule P) before)
   feed-22 f s before after n bytes r = rw (r .answer) (Iff·trans (feeding-22 P before (length f) (length s)) (not-left before bytes))
 
   -- a number at which no cell is read is answered exactly where it comes first
@@ -266,7 +272,7 @@ module _ (P : Profile) where
   pub ask-22 : (marks : ℕ) (state before after : List ℕ) (a : Receipt)
       → ((i : ℕ) → row state i < 256)
       → AskRule P marks state before after a
-      → (a .number ≡ 22) ↔ (T (inRange P) × ¬ LeftBy P state)
+      → (a .number ≡ 22) ↔ (T (inRange P) × ¬ LeftBy (FeedRule P) state)
   ask-22 marks state before after a bytes r =
       Iff·trans (answered-as marks (asking P state (length before)) 22 _ before after a (λ t. t) r)
       (Iff·trans (asking-22 P state (length before)) (not-left state bytes))
@@ -290,7 +296,7 @@ module _ (P : Profile) where
       → AskRule P marks state before after a
       → T (hasRead (a .number)) ↔ (T (inRange P) × (length before ≡ 122 * P .k) × (length f ≡ grid))
   ask-reads marks f s state before after a h r = (
-    (λ t. let q = iff .0 (read t (ℕ-discrete n 0)) in (q .0, q .2, sym (w .firsts) ∙ q .3)),
+    (λ t. let q = iff .0 (read-first r (asking-not-read P state (length before)) t) in (q .0, q .2, sym (w .firsts) ∙ q .3)),
     λ q. delivered-read (r .judged (iff .1 (q .0, left-state w, q .1, w .firsts ∙ q .2)) .delivered),
   )
     where
@@ -302,10 +308,6 @@ module _ (P : Profile) where
 
       iff : (n ≡ 0) ↔ (T (inRange P) × T (isState grid state) × (length before ≡ 122 * P .k) × (seen state ≡ grid))
       iff = asking-0 P state (length before)
-
-      read : T (hasRead (a .number)) → Dec (n ≡ 0) → n ≡ 0
-      read t (yes z) = z
-      read t (no ne) = absurd (asking-not-read P state (length before) ne (subst (λ (b : Receipt). T (hasRead (b .number))) (r .refused ne .0) t))
 
   pub one-feeding : (f s : List Float) (before after after' : List ℕ) (n m : ℕ)
       → FeedRule P f s before after n
@@ -327,9 +329,9 @@ module _ (P : Profile) where
           long = is-state grid before .0 (feeding-taken P before (length f) (length s) .0 (sym (x .answer) ∙ e) .1) .long
 
           each : (i : ℕ) → i < length after → row after i ≡ row after' i
-          each zero h = x .high e ∙ sym (y .high e')
-          each (suc zero) h = x .low e ∙ sym (y .low e')
+          each zero h = x .taken e .high ∙ sym (y .taken e' .high)
+          each (suc zero) h = x .taken e .low ∙ sym (y .taken e' .low)
           each (suc (suc c)) h =
               let at : 2 + c ≡ suc (suc c) = omega arith in
               let l : 2 + c < 28674 = omega (arith, x .long, long) in
-              subst (λ (i : ℕ). row after i ≡ row after' i) at (x .cells e c l ∙ sym (y .cells e' c l))
+              subst (λ (i : ℕ). row after i ≡ row after' i) at (x .taken e .cells c l ∙ sym (y .taken e' .cells c l))

@@ -11,14 +11,13 @@ use Rattle.rules.specs.Bits.{pick, row}
 use Rattle.rules.specs.Outer.{column, marked}
 use Rattle.rules.specs.Slots.{packetBits, slotBits, slots, symbols}
 use Rattle.rules.specs.Block.{packetPart, decidedData, byteOf, scrambler, unscrambled, understood, inBlock, decided, Delivered, Judged}
-use Rattle.rules.specs.Pieces.{keptBit}
+use Rattle.rules.specs.Pieces.{byteAt, keptBit}
 use Rattle.rules.specs.declared.Profile.{Profile}
 use Rattle.rules.specs.declared.Receipt.{Receipt}
 use Rattle.laws.specs.Holds.{Holds}
 use Rattle.laws.specs.Filled.{upTo-below}
 use Rattle.laws.specs.Mask.{mask-same, mask-kept}
 use Rattle.laws.specs.Parts.{part-within}
-use Rattle.cells.specs.Reading.{byteAt}
 use Rattle.cells.proofs.Reading.{kept-heard, kept-same}
 use Rattle.profile.proofs.Entries.{slots-most}
 use Rattle.turbo.specs.Blocks.{reasonAt, keptAt, WeighedTo}
@@ -52,7 +51,7 @@ part-lt : (m p i : ℕ) → p < 16 → i < packetBits m → packetBits m * p + i
 part-lt m p i q h = omega (arith, part-within (packetBits m) p 16 q, block-bits m)
 
 -- a bit said in another way is unscrambled alike
-again : (P : Profile) (g : ℕ) {x y : ℕ} → x ≡ y
+pub again : (P : Profile) (g : ℕ) {x y : ℕ} → x ≡ y
     → unscrambled x (scrambler P (g / slotBits (P .mode)) (g % slotBits (P .mode)))
     ≡ unscrambled y (scrambler P (g / slotBits (P .mode)) (g % slotBits (P .mode)))
 again P g = ap (λ (b : ℕ). unscrambled b (scrambler P (g / slotBits (P .mode)) (g % slotBits (P .mode))))

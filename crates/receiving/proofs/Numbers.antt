@@ -2,15 +2,9 @@
 use mathlib.Core.Path.{_≡_, _∙_, ap}
 use mathlib.Core.List.{List}
 use Prim.Native.Nat.{ℕ}
-use borrow.Author.Tests.{eq-eqb}
-use Rattle.rules.specs.Block.{early, silence, Judged, Answered}
+use Rattle.rules.specs.Block.{silence, Judged, Answered}
 use Rattle.rules.specs.declared.Profile.{Profile}
 use Rattle.rules.specs.declared.Receipt.{Receipt}
-
--- where the lists are long enough, the profile and the bytes decide
-pub early-whole : (P : Profile) (bytes firsts seconds cells : ℕ) → firsts ≡ cells → seconds ≡ cells
-    → early P bytes firsts seconds cells ≡ early P bytes 0 0 0
-early-whole P bytes firsts seconds cells f s = rw (eq-eqb firsts cells f, eq-eqb seconds cells s)
 
 module _ (P : Profile) (marks first : ℕ) (v : ℕ → ℕ) (before after : List ℕ) (a : Receipt) where
   pub answered-refused : (n : ℕ) → n ≡ first → ¬ (n ≡ 0) → a ≡ silence n → after ≡ before → Answered P marks first v before after a

@@ -10,11 +10,10 @@ use lib.ListN.{length, set, take, replicate, length-set, length-append, length-r
 use lib.Seq.{length-take-le, getD-take, getD-set-same, getD-set-other}
 use borrow.Author.Tests.{eq-eqb}
 use Rattle.rules.specs.Bits.{row}
-use Rattle.rules.specs.Pieces.{seen, cellIn, fedCell}
+use Rattle.rules.specs.Pieces.{seen, cellIn, byteAt, fedCell, Put}
 use Rattle.laws.specs.Holds.{Holds}
 use Rattle.laws.specs.Parts.{putPart, put-long, put-before, put-in, put-after}
-use Rattle.cells.specs.Reading.{byteAt, DecideRule}
-use Rattle.receiving.specs.Steps.{Put}
+use Rattle.cells.specs.Reading.{DecideRule}
 use Rattle.receiving.proofs.Fed.{fed-before, fed-in, fed-after}
 
 -- what deciding leaves in a list that is as long as the piece's two

@@ -1,13 +1,12 @@
--- What the steps of feeding and of judging leave.
+-- What the steps of testing a state and of judging answer.
 use mathlib.Core.Path.{_≡_}
 use mathlib.Core.List.{List}
-use Prim.Native.Nat.{ℕ, _+_, _*_, _/_, _%_, _<_, _≤_}
-use lib.Ieee.{Float}
+use Prim.Native.Nat.{ℕ, _*_, _<_, _≤_}
 use lib.ListN.{length}
 use Rattle.rules.specs.Bits.{row}
 use Rattle.rules.specs.Slots.{slotBits, slots}
 use Rattle.rules.specs.Block.{inBlock}
-use Rattle.rules.specs.Pieces.{stateBytes, seen, cellIn, keptBit, fedCell}
+use Rattle.rules.specs.Pieces.{keptBit}
 
 -- a block's bits as the bytes of the grid's cells have them, with room left after them
 abbrev pub KeptBits : ℕ → List ℕ → List ℕ → Type 0
@@ -17,9 +16,3 @@ KeptBits m cells l = (g : ℕ) → g < slotBits m * slots m → row l g ≡ inBl
 pub record Largest (l : List ℕ) (r : ℕ) : Type 0 where
   pub above : (i : ℕ) → i < length l → row l i ≤ r
   pub least : (b : ℕ) → ((i : ℕ) → i < length l → row l i ≤ b) → r ≤ b
-
--- a state once a piece has been put in
-pub record Put (f s : List Float) (before after : List ℕ) : Type 0 where
-  pub high : row after 0 ≡ (seen before + length f) / 256
-  pub low : row after 1 ≡ (seen before + length f) % 256
-  pub cells : (c : ℕ) → 2 + c < stateBytes → cellIn after c ≡ fedCell (seen before) f s (cellIn before) c

@@ -1,4 +1,4 @@
-// Receiving a block: a whole grid, or in pieces that are fed, and then asked.
+// Receiving a block: a whole grid, or one that is fed in pieces and then asked for.
 ghost use mathlib.Core.Path.{_≡_};
 ghost use Rattle.rules.specs.Block as rule;
 ghost use Rattle.rules.specs.Block.{ReceiveRule};

@@ -5,8 +5,8 @@ ghost use Prim.Native.Nat.{_+_, _*_, _<_, _≤_};
 ghost use lib.ListN.{length};
 ghost use Rattle.rules.specs.Slots.{symbols};
 ghost use Rattle.rules.specs.Pieces as rule;
-ghost use Rattle.rules.specs.Pieces.{stateBytes, isState};
-ghost use Rattle.receiving.specs.Steps.{Largest, Put};
+ghost use Rattle.rules.specs.Pieces.{stateBytes, isState, Put};
+ghost use Rattle.receiving.specs.Steps.{Largest};
 use block::symbol_count;
 use rules::Profile;
 

@@ -12,9 +12,9 @@ use Rattle.rules.specs.Packet.{checkWord}
 use Rattle.rules.specs.Outer.{encoded, Codeword, Agree, marked}
 use Rattle.rules.specs.Interleaver.{bitDeinterleaved}
 use Rattle.rules.specs.Turbo.{dataPlace}
-use Rattle.rules.specs.Slots.{rate, slotBits, packetBits, symbols, coded, blockBit, symbolOf, slotNumber, scrambling}
+use Rattle.rules.specs.Slots.{rate, slotBits, packetBits, symbols, coded, blockBit, slotNumber, scrambling}
 use Rattle.rules.specs.Points.{zeroPart, pointOf, firstPart, secondPart, doubtful, decide}
-use Rattle.rules.specs.Cells.{carried, pointCell}
+use Rattle.rules.specs.Cells.{carried, gridCell}
 use Rattle.rules.specs.Profile.{inRange}
 use Rattle.rules.specs.Answers.{hasRead}
 use Rattle.rules.specs.declared.Profile.{Profile}
@@ -81,17 +81,17 @@ partOf i firsts seconds at = pick (eqb (i % 2) 0) (getD firsts at zeroPart) (get
 
 -- bit i of block slot t as its cell decides, still scrambled
 unfoldable pub heard : List Float → List Float → ℕ → ℕ → ℕ
-heard firsts seconds t i = decide (partOf i firsts seconds (4096 * symbolOf t + pointCell t (i / 2)))
+heard firsts seconds t i = decide (partOf i firsts seconds (gridCell t (i / 2)))
 
 -- doubtful, or unscrambled
 abbrev pub unscrambled : ℕ → ℕ → ℕ
 unscrambled b s = pick (eqb b doubtful) doubtful ((b + s) % 2)
 
--- bit g of the block, where v says its bits still scrambled
+-- bit g of the block, unscrambled; v has the scrambled bits
 abbrev pub understood : Profile → (ℕ → ℕ) → ℕ → ℕ
 understood P v g = unscrambled (v g) (scrambler P (g / slotBits (P .mode)) (g % slotBits (P .mode)))
 
--- bits by slot, as the block's
+-- bit g of the block, from bits by slot
 abbrev pub inBlock : ℕ → (ℕ → ℕ → ℕ) → ℕ → ℕ
 inBlock m bits g = bits (g / slotBits m) (g % slotBits m)
 

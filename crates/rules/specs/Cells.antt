@@ -31,6 +31,10 @@ cellOf k i = pick (eqb k 0 && leb 250 i) (56 + 8 * i) (48 + k + 8 * i)
 abbrev pub pointCell : ℕ → ℕ → ℕ
 pointCell t i = cellOf (interlaceOf (symbolOf t) (slotNumber t)) (placeOf i)
 
+-- the same in the whole grid, symbol after symbol
+abbrev pub gridCell : ℕ → ℕ → ℕ
+gridCell t i = 4096 * symbolOf t + pointCell t i
+
 -- ---- the same read from the cell: crates/cells/proofs/Inverse.antt shows that each of the two is the other's inverse
 
 -- what a cell belongs to: interlace k, place i; or to no interlace

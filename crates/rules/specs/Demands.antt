@@ -17,7 +17,7 @@ use Rattle.rules.specs.Profile.{inRange, Shape, reading, writing, blank,
 use Rattle.rules.specs.Answers.{isNumber, isReason, hasRead}
 use Rattle.rules.specs.Block.{scrambler, sentBit, heard, Cells, SendRule, SendSymbolRule}
 use Rattle.rules.specs.Block.{Accepted, ReceiveRule}
-use Rattle.rules.specs.Pieces.{FeedRule, AskRule, Fed}
+use Rattle.rules.specs.Pieces.{FeedRule, AskRule, Fed, LeftBy}
 use Rattle.rules.specs.declared.Profile.{Profile}
 use Rattle.rules.specs.declared.Receipt.{Receipt}
 
@@ -62,10 +62,6 @@ abbrev pub SomePacket : Profile → List Float → List Float → ℕ → Type 0
 SomePacket P f s p =
     (e : ℕ → ℕ) × ((j : ℕ) → j < 122 → e j < 256)
     × ((i : ℕ) → i < packetBits (P .mode) → heardInPlace P f s p i ≡ bitInPlace P e p i)
-
--- some pieces, fed with this profile from the new state on, leave the state
-abbrev pub LeftBy : Profile → List ℕ → Type 0
-LeftBy P state = (f : List Float) × (s : List Float) × Fed (FeedRule P) f s state
 
 pub record D2 : Type 0 where
   -- sending a block fills the grid with exactly the cells that the rules give, and does so wherever profile and lengths are right
@@ -128,11 +124,11 @@ pub record D2 : Type 0 where
   pub feed-22 : (P : Profile) (f s : List Float) (before after : List ℕ) (n : ℕ)
       → ((i : ℕ) → row before i < 256)
       → FeedRule P f s before after n
-      → (n ≡ 22) ↔ (T (inRange P) × ¬ LeftBy P before)
+      → (n ≡ 22) ↔ (T (inRange P) × ¬ LeftBy (FeedRule P) before)
   pub ask-22 : (P : Profile) (marks : ℕ) (state before after : List ℕ) (a : Receipt)
       → ((i : ℕ) → row state i < 256)
       → AskRule P marks state before after a
-      → (a .number ≡ 22) ↔ (T (inRange P) × ¬ LeftBy P state)
+      → (a .number ≡ 22) ↔ (T (inRange P) × ¬ LeftBy (FeedRule P) state)
   -- after pieces that were fed, every piece is taken that has lists of one length and ends within the grid, and no other
   pub takes : (P : Profile) (f s f' s' : List Float) (before after : List ℕ) (n : ℕ)
       → T (inRange P)

@@ -7,9 +7,9 @@ use lib.Dec.{eqb, leb, ltb}
 use lib.Ieee.{Float}
 use lib.ListN.{length, getD, replicate}
 use Rattle.rules.specs.Bits.{pick, row, everyBelow}
-use Rattle.rules.specs.Slots.{symbols, symbolOf}
+use Rattle.rules.specs.Slots.{symbols}
 use Rattle.rules.specs.Points.{zeroPart, decide}
-use Rattle.rules.specs.Cells.{pointCell}
+use Rattle.rules.specs.Cells.{gridCell}
 use Rattle.rules.specs.Profile.{inRange}
 use Rattle.rules.specs.Block.{understood, inBlock, Answered}
 use Rattle.rules.specs.declared.Profile.{Profile}
@@ -37,6 +37,10 @@ cellIn state c = row state (2 + c)
 abbrev pub cellByte : Float → Float → ℕ
 cellByte first second = decide first + 3 * decide second
 
+-- the byte of cell c of two lists
+abbrev pub byteAt : List Float → List Float → ℕ → ℕ
+byteAt firsts seconds c = cellByte (getD firsts c zeroPart) (getD seconds c zeroPart)
+
 -- each decision is one of three
 abbrev pub isCellByte : ℕ → Bool
 isCellByte b = ltb b 9
@@ -45,7 +49,7 @@ isCellByte b = ltb b 9
 abbrev pub decisionIn : ℕ → ℕ → ℕ
 decisionIn b i = pick (eqb (i % 2) 0) (b % 3) (b / 3)
 
--- a state that pieces of a grid of so many cells leave: those that have come have such bytes, and the others zero
+-- a state that pieces of a grid of so many cells leave: the cells that have come have such bytes, and all others zero
 unfoldable pub isState : ℕ → List ℕ → Bool
 isState cells state =
     eqb (length state) stateBytes
@@ -54,7 +58,7 @@ isState cells state =
 
 -- bit i of block slot t, still scrambled, from the bytes of the grid's cells
 unfoldable pub keptBit : (ℕ → ℕ) → ℕ → ℕ → ℕ
-keptBit cells t i = decisionIn (cells (4096 * symbolOf t + pointCell t (i / 2))) i
+keptBit cells t i = decisionIn (cells (gridCell t (i / 2))) i
 
 -- ---- feeding
 
@@ -67,16 +71,19 @@ feeding P state firsts seconds =
 
 -- the byte of cell c once a piece has come after n cells: the piece's own, and else what it was
 abbrev pub fedCell : ℕ → List Float → List Float → (ℕ → ℕ) → ℕ → ℕ
-fedCell n f s before c =
-    pick (leb n c && ltb c (n + length f)) (cellByte (getD f (c - n) zeroPart) (getD s (c - n) zeroPart)) (before c)
+fedCell n f s before c = pick (leb n c && ltb c (n + length f)) (byteAt f s (c - n)) (before c)
+
+-- a state once a piece has been put in
+pub record Put (f s : List Float) (before after : List ℕ) : Type 0 where
+  pub high : row after 0 ≡ (seen before + length f) / 256
+  pub low : row after 1 ≡ (seen before + length f) % 256
+  pub cells : (c : ℕ) → 2 + c < stateBytes → cellIn after c ≡ fedCell (seen before) f s (cellIn before) c
 
 -- what feeding a piece answers, and what the state then is
 pub record FeedRule (P : Profile) (f s : List Float) (before after : List ℕ) (number : ℕ) : Type 0 where
   pub answer : number ≡ feeding P before (length f) (length s)
   pub long : length after ≡ length before
-  pub high : number ≡ 0 → row after 0 ≡ (seen before + length f) / 256
-  pub low : number ≡ 0 → row after 1 ≡ (seen before + length f) % 256
-  pub cells : number ≡ 0 → (c : ℕ) → 2 + c < stateBytes → cellIn after c ≡ fedCell (seen before) f s (cellIn before) c
+  pub taken : number ≡ 0 → Put f s before after
   pub kept : ¬ (number ≡ 0) → after ≡ before
 
 -- Pieces fed one after the other from the new state on, none refused: all their cells, and the state that they leave. Feed says what feeding a
@@ -87,6 +94,10 @@ pub data Fed (Feed : List Float → List Float → List ℕ → List ℕ → ℕ
       → Fed Feed f s before
       → Feed f' s' before after 0
       → Fed Feed (f ++ f') (s ++ s') after
+
+-- some pieces leave the state
+abbrev pub LeftBy : (List Float → List Float → List ℕ → List ℕ → ℕ → Type 0) → List ℕ → Type 0
+LeftBy Feed state = (f : List Float) × (s : List Float) × Fed Feed f s state
 
 -- ---- asking
 

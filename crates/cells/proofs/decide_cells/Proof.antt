@@ -7,10 +7,9 @@ use lib.ListN.{length}
 use borrow.Author.Needs.{needs}
 use borrow.Author.Tests.{eq-eqb, ne-eqb}
 use Rattle.rules.specs.Bits.{row}
-use Rattle.rules.specs.Pieces.{cellByte}
+use Rattle.rules.specs.Pieces.{cellByte, byteAt}
 use Rattle.laws.specs.Holds.{Holds, holds-self}
 use Rattle.laws.specs.Filled.{upTo, holds-first, holds-next, holds-whole}
-use Rattle.cells.specs.Reading.{byteAt}
 use Rattle.cells.proofs.decide_cells.Statement.{statement}
 use Rattle.cells.proofs.decide_cells.Tie as tie
 

@@ -42,9 +42,7 @@ returns c =
     record {
       answer = e;
       long = p .kept .0;
-      high = λ _. p .ensures .high;
-      low = λ _. p .ensures .low;
-      cells = λ _. p .ensures .cells;
+      taken = λ _. p .ensures;
       kept = λ ne. absurd (ne z);
     }
 
@@ -56,9 +54,7 @@ returns-2 c =
     record {
       answer = c .before .feeding .ensures;
       long = refl;
-      high = λ z. absurd (c .if1 .left z);
-      low = λ z. absurd (c .if1 .left z);
-      cells = λ z. absurd (c .if1 .left z);
+      taken = λ z. absurd (c .if1 .left z);
       kept = λ _. refl;
     }
 

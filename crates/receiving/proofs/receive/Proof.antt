@@ -9,7 +9,7 @@ use Rattle.rules.specs.Bits.{row}
 use Rattle.rules.specs.Slots.{symbols}
 use Rattle.rules.specs.Block.{early, decided}
 use Rattle.laws.specs.Holds.{Holds}
-use Rattle.cells.specs.Reading.{byteAt}
+use Rattle.rules.specs.Pieces.{byteAt}
 use Rattle.block.proofs.Passed.{Right, right}
 use Rattle.receiving.proofs.Numbers.{answered-refused, answered-judged}
 use Rattle.receiving.proofs.Judgement.{kept-judged}

@@ -6,7 +6,7 @@ use lib.ListN.{length}
 use borrow.Author.Needs.{needs}
 use Rattle.laws.specs.Holds.{Holds}
 use Rattle.laws.specs.Parts.{part-long}
-use Rattle.cells.specs.Reading.{byteAt}
+use Rattle.rules.specs.Pieces.{byteAt}
 use Rattle.receiving.proofs.Putting.{piece-bytes, put-second, put-done}
 use Rattle.receiving.proofs.pieces.put.Statement.{statement}
 use Rattle.receiving.proofs.pieces.put.Tie as tie
