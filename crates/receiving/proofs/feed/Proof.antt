@@ -22,7 +22,8 @@ taken : (c : tie.Then1)
     × (seen (a .state .now) + length (a .firsts .now) ≤ 4096 * symbols (a .p .mode))
 taken c =
     let a = c .before .before .before .before .before .before .args in
-    feeding-taken (a .p) (a .state .now) (length (a .firsts .now)) (length (a .seconds .now)) .0 (sym (c .before .feeding .ensures) ∙ c .if1 .taken)
+    let done : c .before .feeding .result ≡ 0 = omega arith in
+    feeding-taken (a .p) (a .state .now) (length (a .firsts .now)) (length (a .seconds .now)) .0 (sym (c .before .feeding .ensures) ∙ done)
 
 put-requires : tie.Need-put-requires
 put-requires c κs =
@@ -37,13 +38,13 @@ returns : tie.Need-returns
 returns c =
     let n = c .before .before .before .before .before in
     let e = n .feeding .ensures in
-    let z = c .before .before .before .before .if1 .taken in
+    let done : n .feeding .result ≡ 0 = omega arith in
     let p = c .before .before .put in
     record {
       answer = e;
       long = p .kept .0;
       taken = λ _. p .ensures;
-      kept = λ ne. absurd (ne z);
+      kept = λ ne. absurd (ne done);
     }
 
 same-length-2 : tie.Need-same-length-2
