@@ -17,12 +17,12 @@ use Rattle.laws.specs.Every.{every-at}
 use Rattle.rules.specs.Field.{_⊕_, _⊗_, double, times, power, alpha, inverse, polynomial}
 
 -- what holds of 0 and 1 holds of each number below 2, and of each digit
-below-two : (P : ℕ → Type 0) → P 0 → P 1 → (x : ℕ) → x < 2 → P x
+pub below-two : (P : ℕ → Type 0) → P 0 → P 1 → (x : ℕ) → x < 2 → P x
 below-two P p q zero h = p
 below-two P p q (suc zero) h = q
 below-two P p q (suc (suc x)) h = absurd (omega arith)
 
-bit : (P : ℕ → Type 0) → P 0 → P 1 → (n : ℕ) → P (n % 2)
+pub bit : (P : ℕ → Type 0) → P 0 → P 1 → (n : ℕ) → P (n % 2)
 bit P p q n = below-two P p q (n % 2) (omega arith)
 
 -- ---- the sum
@@ -49,7 +49,7 @@ pub ⊕-assoc : (a b c : ℕ) → (a ⊕ b) ⊕ c ≡ a ⊕ (b ⊕ c)
     omega (arith, halves, xor-add-and (a ⊕ b) c, xor-add-and a b, xor-add-and a (b ⊕ c), xor-add-and b c)
 
 -- two sums, added
-⊕-swap : (a b c d : ℕ) → (a ⊕ b) ⊕ (c ⊕ d) ≡ (a ⊕ c) ⊕ (b ⊕ d)
+pub ⊕-swap : (a b c d : ℕ) → (a ⊕ b) ⊕ (c ⊕ d) ≡ (a ⊕ c) ⊕ (b ⊕ d)
 ⊕-swap a b c d =
     ⊕-assoc a b (c ⊕ d)
     ∙ ap (λ (x : ℕ). a ⊕ x) (sym (⊕-assoc b c d) ∙ ap (λ (x : ℕ). x ⊕ d) (⊕-comm b c) ∙ ⊕-assoc c b d)
@@ -57,14 +57,14 @@ pub ⊕-assoc : (a b c : ℕ) → (a ⊕ b) ⊕ c ≡ a ⊕ (b ⊕ c)
 
 -- ---- additive functions
 
-abbrev Additive : (ℕ → ℕ) → Type 0
+abbrev pub Additive : (ℕ → ℕ) → Type 0
 Additive f = (a b : ℕ) → f (a ⊕ b) ≡ f a ⊕ f b
 
 additive-zero : (f : ℕ → ℕ) → Additive f → f 0 ≡ 0
 additive-zero f h = h 0 0 ∙ ⊕-self (f 0)
 
 -- a number is the sum of its highest digit's part and the rest
-top-rest : (n a : ℕ) → a / 2 ^ n * 2 ^ n ⊕ a % 2 ^ n ≡ a
+pub top-rest : (n a : ℕ) → a / 2 ^ n * 2 ^ n ⊕ a % 2 ^ n ≡ a
 top-rest n a = xor-shifted (a / 2 ^ n) n (a % 2 ^ n) (mod-lt a (pow-pos n)) ∙ split a n
 
 -- two additive functions that agree at the powers of two agree
@@ -85,7 +85,7 @@ module _ (f g : ℕ → ℕ) (hf : Additive f) (hg : Additive g) where
 -- ---- the product is additive in both arguments
 
 -- the lowest digit times c, in either factor
-bit-times : (c : ℕ) → Additive (λ a. a % 2 * c)
+pub bit-times : (c : ℕ) → Additive (λ a. a % 2 * c)
 bit-times c a b =
     ap (λ (x : ℕ). x * c) (xor-mod a b 1)
     ∙ bit (λ (x : ℕ). (x ⊕ b % 2) * c ≡ x * c ⊕ b % 2 * c) (rw zero-mul)
@@ -94,7 +94,7 @@ bit-times c a b =
 times-bit : (c : ℕ) → Additive (λ a. c % 2 * a)
 times-bit c a b = bit (λ (x : ℕ). x * (a ⊕ b) ≡ x * a ⊕ x * b) (simp zero-mul) (simp one-mul) c
 
-double-additive : Additive double
+pub double-additive : Additive double
 unfolding double
 double-additive a b =
     ap₂ _⊕_ (ap (λ (x : ℕ). x % 256) (sym (simp add-zero at (xor-block 1 a b 0 0 (lit< tt) (lit< tt)))) ∙ xor-mod (a * 2) (b * 2) 8)
@@ -164,14 +164,16 @@ double-is = agree double (_⊗_ 2) double-additive (⊗-⊕-l 2) tt
 unfolding _⊗_
 ⊗-mod a b = simp mod-mod
 
-comm-test : T (everyBelow 8 (λ j. everyBelow 8 (λ i. eqb (2 ^ i ⊗ 2 ^ j) (2 ^ j ⊗ 2 ^ i))))
-unfolding _⊗_ times double
-comm-test = tt
+-- functions of two elements that are additive in both agree if they do at 1, 2 .. 128
+pub agree₂ : (f g : ℕ → ℕ → ℕ) → ((b : ℕ) → Additive (λ a. f a b)) → ((a : ℕ) → Additive (f a)) → ((b : ℕ) → Additive (λ a. g a b)) → ((a : ℕ) → Additive (g a))
+    → T (everyBelow 8 (λ j. everyBelow 8 (λ i. eqb (f (2 ^ i) (2 ^ j)) (g (2 ^ i) (2 ^ j))))) → (a b : ℕ) → a < 256 → b < 256 → f a b ≡ g a b
+agree₂ f g fl fr gl gr t a b ha =
+    from-powers (f a) (g a) (fr a) (gr a) 8
+    (λ j hj. agree (λ x. f x (2 ^ j)) (λ x. g x (2 ^ j)) (fl (2 ^ j)) (gl (2 ^ j)) (every-at 8 (λ j. everyBelow 8 (λ i. eqb (f (2 ^ i) (2 ^ j)) (g (2 ^ i) (2 ^ j)))) t j hj) a ha) b
 
 comm-below : (a b : ℕ) → a < 256 → b < 256 → a ⊗ b ≡ b ⊗ a
-comm-below a b ha =
-    from-powers (_⊗_ a) (λ x. x ⊗ a) (⊗-⊕-l a) (λ x y. ⊗-⊕-r x y a) 8
-    (λ j hj. agree (λ x. x ⊗ 2 ^ j) (_⊗_ (2 ^ j)) (λ x y. ⊗-⊕-r x y (2 ^ j)) (⊗-⊕-l (2 ^ j)) (every-at 8 (λ j. everyBelow 8 (λ i. eqb (2 ^ i ⊗ 2 ^ j) (2 ^ j ⊗ 2 ^ i))) comm-test j hj) a ha) b
+unfolding _⊗_ times double
+comm-below = agree₂ _⊗_ (λ a b. b ⊗ a) (λ b x y. ⊗-⊕-r x y b) ⊗-⊕-l ⊗-⊕-l (λ b x y. ⊗-⊕-r x y b) tt
 
 pub ⊗-comm : (a b : ℕ) → a ⊗ b ≡ b ⊗ a
 ⊗-comm a b = sym (⊗-mod a b) ∙ comm-below (a % 256) (b % 256) (omega arith) (omega arith) ∙ ⊗-mod b a

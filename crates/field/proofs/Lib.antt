@@ -1,1 +1,3 @@
+mod Entries
 pub mod Laws
+mod Words

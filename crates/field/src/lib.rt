@@ -1,7 +1,13 @@
 // GF(256) as document 01's outer code has it.
 ghost use mathlib.Core.Path.{_≡_};
 ghost use Rattle.rules.specs.Field as rule;
-ghost use Rattle.rules.specs.Field.{_⊕_, _⊗_, double};
+ghost use Rattle.rules.specs.Field.{_⊕_, _⊗_};
+
+mod tables;
+
+use tables::high_multiples;
+use tables::low_multiples;
+use tables::mask;
 
 // An element of the field: bit i of the byte is the coefficient of x^i.
 pub struct Element(pub u8);
@@ -19,36 +25,17 @@ impl Element {
         Element(self.0 ^ other.0)
     }
 
-    // x times the element
-    fn doubled(self) -> Element
-        ensures { λ r. ⌜ r .0 ≡ double (self .0) ⌝ }
-    {
-        let wide = (self.0 as u32) * 2;
-        let low = (wide % 256) as u8;
-        if wide < 256 {
-            Element(low)
-        } else {
-            Element(low ^ 29)
-        }
-    }
-
-    // One bit at a time.
+    // A word has x^t times self, t from 0 to 7, a byte each; those whose bit of other is one are summed.
     pub fn product(self, other: Element) -> Element
         ensures { λ r. ⌜ r .0 ≡ self .0 ⊗ other .0 ⌝ }
     {
-        let mut sum = Element::ZERO;
-        let mut shifted = self;
-        let mut left = other.0;
-        let mut turn = 0u32;
-        while turn < 8 {
-            if left % 2 == 1 {
-                sum = sum.sum(shifted);
-            }
-            shifted = shifted.doubled();
-            left = left / 2;
-            turn = turn + 1;
-        }
-        sum
+        let word = low_multiples(self.0 % 16) ^ high_multiples(self.0 / 16);
+        let low = (word % 4294967296) as u32;
+        let high = (word / 4294967296) as u32;
+        let four = (low & mask(other.0 % 16)) ^ (high & mask(other.0 / 16));
+        let two = four ^ (four / 65536);
+        let one = two ^ (two / 256);
+        Element((one % 256) as u8)
     }
 
     // By squares, so that the time goes by the digits of k.

@@ -1,0 +1,107 @@
+-- The product by words. What a word has is additive, and so is what is gathered from it: it is the product, since a computed test of 1, 2 .. 128
+-- passes.
+use mathlib.Core.Path.{_≡_, refl, sym, ap, ap₂, _∙_}
+use Prim.Native.Nat.{ℕ, zero, suc, _*_, _/_, _%_, _^_, _<_}
+use native.Mathlib.Nat.{add-zero}
+use native.Mathlib.Omega.{arith}
+use lib.Arith.{bin-ind}
+use lib.Bits.{bitAnd, and-step, and-shr, and-mod, and-comm, xor-step, xor-shr, xor-mod, xor-block}
+use lib.Dec.{T, eqb, eqb→eq}
+use lib.Pow.{pow-pos}
+use Rattle.rules.specs.Field.{_⊕_, _⊗_, times, double}
+use Rattle.field.specs.Words.{shifts, multiples, masks}
+use Rattle.field.proofs.Laws.{Additive, bit, ⊕-swap, ⊕-comm, double-additive, bit-times, top-rest, agree₂, ⊗-⊕-l, ⊗-⊕-r}
+
+-- ---- what is additive
+
+after : (f g : ℕ → ℕ) → Additive f → Additive g → Additive (λ a. f (g a))
+after f g hf hg a b = ap f (hg a b) ∙ hf (g a) (g b)
+
+both : (f g : ℕ → ℕ) → Additive f → Additive g → Additive (λ a. f a ⊕ g a)
+both f g hf hg a b = ap₂ _⊕_ (hf a b) (hg a b) ∙ ⊕-swap (f a) (f b) (g a) (g b)
+
+left-additive : (k : ℕ) → Additive (λ a. a * 2 ^ k)
+left-additive k a b = sym (simp add-zero at (xor-block k a b 0 0 (pow-pos k) (pow-pos k)))
+
+right-additive : (k : ℕ) → Additive (λ a. a / 2 ^ k)
+right-additive k a b = xor-shr a b k
+
+rest-additive : (k : ℕ) → Additive (λ a. a % 2 ^ k)
+rest-additive k a b = xor-mod a b k
+
+-- digit by digit
+and-additive : (a b c : ℕ) → bitAnd (a ⊕ b) c ≡ bitAnd a c ⊕ bitAnd b c
+and-additive =
+    bin-ind (λ (a : ℕ). (b c : ℕ) → bitAnd (a ⊕ b) c ≡ bitAnd a c ⊕ bitAnd b c) (λ b c. refl) λ a ih b c.
+    let halves : bitAnd (a ⊕ b) c / 2 ≡ (bitAnd a c ⊕ bitAnd b c) / 2 =
+    and-shr (a ⊕ b) c 1 ∙ ap (λ (x : ℕ). bitAnd x (c / 2)) (xor-shr a b 1) ∙ ih (b / 2) (c / 2)
+    ∙ sym (xor-shr (bitAnd a c) (bitAnd b c) 1 ∙ ap₂ _⊕_ (and-shr a c 1) (and-shr b c 1)) in
+    let digits : bitAnd (a ⊕ b) c % 2 ≡ (bitAnd a c ⊕ bitAnd b c) % 2 =
+    and-mod (a ⊕ b) c 1 ∙ ap (λ (x : ℕ). bitAnd x (c % 2)) (xor-mod a b 1)
+    ∙ bit (λ (x : ℕ). bitAnd (x ⊕ b % 2) (c % 2) ≡ bitAnd x (c % 2) ⊕ bitAnd (b % 2) (c % 2))
+    refl (bit (λ (y : ℕ). bitAnd (1 ⊕ y) (c % 2) ≡ bitAnd 1 (c % 2) ⊕ bitAnd y (c % 2))
+    (bit (λ (z : ℕ). bitAnd 1 z ≡ bitAnd 1 z ⊕ 0) refl refl c) (bit (λ (z : ℕ). bitAnd 0 z ≡ bitAnd 1 z ⊕ bitAnd 1 z) refl refl c) b) a
+    ∙ sym (xor-mod (bitAnd a c) (bitAnd b c) 1 ∙ ap₂ _⊕_ (and-mod a c 1) (and-mod b c 1)) in
+    omega (arith, halves, digits)
+
+shifts-additive : (n : ℕ) → Additive (shifts n)
+unfolding shifts
+shifts-additive zero = λ a b. refl
+shifts-additive (suc n) =
+    both (λ a. a) (λ a. shifts n (double a) * 256) (λ a b. refl)
+    (after (λ a. a * 256) (λ a. shifts n (double a)) (left-additive 8) (after (shifts n) double (shifts-additive n) double-additive))
+
+masks-additive : (n : ℕ) → Additive (masks n)
+unfolding masks
+masks-additive zero = λ a b. refl
+masks-additive (suc n) =
+    both (λ b. b % 2 * 255) (λ b. masks n (b / 2) * 256) (bit-times 255)
+    (after (λ b. b * 256) (λ b. masks n (b / 2)) (left-additive 8) (after (masks n) (λ b. b / 2) (masks-additive n) (right-additive 1)))
+
+-- ---- the halves of the first factor
+
+pub halves : (a : ℕ) → multiples (a % 16) ⊕ multiples (a / 16 * 16) ≡ multiples a
+halves a = sym (shifts-additive 8 (a % 16) (a / 16 * 16)) ∙ ap multiples (⊕-comm (a % 16) (a / 16 * 16) ∙ top-rest 4 a)
+
+-- ---- what is gathered from a word for the second factor
+
+-- of a word's eight bytes, those that a nibble of b wants, four and four; and then the sum of these four
+abbrev four : ℕ → ℕ → ℕ
+four w b = bitAnd (w % 2 ^ 32) (masks 4 (b % 16)) ⊕ bitAnd (w / 2 ^ 32) (masks 4 (b / 16))
+
+abbrev folded : ℕ → ℕ → ℕ
+folded k w = w ⊕ w / 2 ^ k
+
+abbrev summed : ℕ → ℕ
+summed w = folded 8 (folded 16 w) % 256
+
+folded-additive : (k : ℕ) → Additive (folded k)
+folded-additive k = both (λ a. a) (λ a. a / 2 ^ k) (λ a b. refl) (right-additive k)
+
+summed-additive : Additive summed
+summed-additive =
+    after (λ w. w % 256) (λ w. folded 8 (folded 16 w)) (rest-additive 8) (after (folded 8) (folded 16) (folded-additive 8) (folded-additive 16))
+
+four-additive-l : (b : ℕ) → Additive (λ w. four w b)
+four-additive-l b =
+    both (λ w. bitAnd (w % 2 ^ 32) (masks 4 (b % 16))) (λ w. bitAnd (w / 2 ^ 32) (masks 4 (b / 16)))
+    (after (λ x. bitAnd x (masks 4 (b % 16))) (λ w. w % 2 ^ 32) (λ x y. and-additive x y (masks 4 (b % 16))) (rest-additive 32))
+    (after (λ x. bitAnd x (masks 4 (b / 16))) (λ w. w / 2 ^ 32) (λ x y. and-additive x y (masks 4 (b / 16))) (right-additive 32))
+
+and-additive-r : (c : ℕ) → Additive (bitAnd c)
+and-additive-r c a b = and-comm c (a ⊕ b) ∙ and-additive a b c ∙ ap₂ _⊕_ (and-comm a c) (and-comm b c)
+
+four-additive-r : (w : ℕ) → Additive (four w)
+four-additive-r w =
+    both (λ b. bitAnd (w % 2 ^ 32) (masks 4 (b % 16))) (λ b. bitAnd (w / 2 ^ 32) (masks 4 (b / 16)))
+    (after (bitAnd (w % 2 ^ 32)) (λ b. masks 4 (b % 16)) (and-additive-r (w % 2 ^ 32)) (after (masks 4) (λ b. b % 16) (masks-additive 4) (rest-additive 4)))
+    (after (bitAnd (w / 2 ^ 32)) (λ b. masks 4 (b / 16)) (and-additive-r (w / 2 ^ 32)) (after (masks 4) (λ b. b / 16) (masks-additive 4) (right-additive 4)))
+
+abbrev gathered : ℕ → ℕ → ℕ
+gathered a b = summed (four (multiples a) b)
+
+pub by-words : (a b : ℕ) → a < 256 → b < 256 → gathered a b ≡ a ⊗ b
+unfolding _⊗_ times double shifts masks
+by-words =
+    agree₂ gathered _⊗_ (λ b. after summed (λ a. four (multiples a) b) summed-additive (after (λ w. four w b) multiples (four-additive-l b) (shifts-additive 8)))
+    (λ a. after summed (four (multiples a)) summed-additive (four-additive-r (multiples a))) (λ b x y. ⊗-⊕-r x y b) ⊗-⊕-l tt
