@@ -17,7 +17,7 @@ use Rattle.laws.specs.Every.{every-at}
 use Rattle.rules.specs.Field.{_⊕_, _⊗_, double, times, power, alpha, inverse, polynomial}
 
 -- what holds of 0 and 1 holds of each number below 2, and of each digit
-pub below-two : (P : ℕ → Type 0) → P 0 → P 1 → (x : ℕ) → x < 2 → P x
+below-two : (P : ℕ → Type 0) → P 0 → P 1 → (x : ℕ) → x < 2 → P x
 below-two P p q zero h = p
 below-two P p q (suc zero) h = q
 below-two P p q (suc (suc x)) h = absurd (omega arith)
@@ -164,16 +164,24 @@ double-is = agree double (_⊗_ 2) double-additive (⊗-⊕-l 2) tt
 unfolding _⊗_
 ⊗-mod a b = simp mod-mod
 
--- functions of two elements that are additive in both agree if they do at 1, 2 .. 128
-pub agree₂ : (f g : ℕ → ℕ → ℕ) → ((b : ℕ) → Additive (λ a. f a b)) → ((a : ℕ) → Additive (f a)) → ((b : ℕ) → Additive (λ a. g a b)) → ((a : ℕ) → Additive (g a))
-    → T (everyBelow 8 (λ j. everyBelow 8 (λ i. eqb (f (2 ^ i) (2 ^ j)) (g (2 ^ i) (2 ^ j))))) → (a b : ℕ) → a < 256 → b < 256 → f a b ≡ g a b
-agree₂ f g fl fr gl gr t a b ha =
-    from-powers (f a) (g a) (fr a) (gr a) 8
-    (λ j hj. agree (λ x. f x (2 ^ j)) (λ x. g x (2 ^ j)) (fl (2 ^ j)) (gl (2 ^ j)) (every-at 8 (λ j. everyBelow 8 (λ i. eqb (f (2 ^ i) (2 ^ j)) (g (2 ^ i) (2 ^ j)))) t j hj) a ha) b
+-- and functions of two elements that are additive in each, if they do at those of both
+abbrev pub Biadditive : (ℕ → ℕ → ℕ) → Type 0
+Biadditive f = ((b : ℕ) → Additive (λ a. f a b)) × ((a : ℕ) → Additive (f a))
+
+abbrev agreeing : (ℕ → ℕ → ℕ) → (ℕ → ℕ → ℕ) → ℕ → Bool
+agreeing f g j = everyBelow 8 (λ i. eqb (f (2 ^ i) (2 ^ j)) (g (2 ^ i) (2 ^ j)))
+
+pub agree₂ : (f g : ℕ → ℕ → ℕ) → Biadditive f → Biadditive g → T (everyBelow 8 (agreeing f g)) → (a b : ℕ) → a < 256 → b < 256 → f a b ≡ g a b
+agree₂ f g hf hg t a b ha =
+    from-powers (f a) (g a) (hf .1 a) (hg .1 a) 8
+    (λ j hj. agree (λ x. f x (2 ^ j)) (λ x. g x (2 ^ j)) (hf .0 (2 ^ j)) (hg .0 (2 ^ j)) (every-at 8 (agreeing f g) t j hj) a ha) b
+
+pub ⊗-biadditive : Biadditive _⊗_
+⊗-biadditive = (λ c a b. ⊗-⊕-r a b c, ⊗-⊕-l)
 
 comm-below : (a b : ℕ) → a < 256 → b < 256 → a ⊗ b ≡ b ⊗ a
 unfolding _⊗_ times double
-comm-below = agree₂ _⊗_ (λ a b. b ⊗ a) (λ b x y. ⊗-⊕-r x y b) ⊗-⊕-l ⊗-⊕-l (λ b x y. ⊗-⊕-r x y b) tt
+comm-below = agree₂ _⊗_ (λ a b. b ⊗ a) ⊗-biadditive (⊗-biadditive .1, ⊗-biadditive .0) tt
 
 pub ⊗-comm : (a b : ℕ) → a ⊗ b ≡ b ⊗ a
 ⊗-comm a b = sym (⊗-mod a b) ∙ comm-below (a % 256) (b % 256) (omega arith) (omega arith) ∙ ⊗-mod b a

@@ -5,12 +5,11 @@ use Prim.Native.Nat.{ℕ, zero, suc, _*_, _/_, _%_, _^_, _<_}
 use native.Mathlib.Nat.{add-zero}
 use native.Mathlib.Omega.{arith}
 use lib.Arith.{bin-ind}
-use lib.Bits.{bitAnd, and-step, and-shr, and-mod, and-comm, xor-step, xor-shr, xor-mod, xor-block}
-use lib.Dec.{T, eqb, eqb→eq}
+use lib.Bits.{bitAnd, and-shr, and-mod, and-comm, xor-shr, xor-mod, xor-block}
 use lib.Pow.{pow-pos}
 use Rattle.rules.specs.Field.{_⊕_, _⊗_, times, double}
 use Rattle.field.specs.Words.{shifts, multiples, masks}
-use Rattle.field.proofs.Laws.{Additive, bit, ⊕-swap, ⊕-comm, double-additive, bit-times, top-rest, agree₂, ⊗-⊕-l, ⊗-⊕-r}
+use Rattle.field.proofs.Laws.{Additive, Biadditive, bit, ⊕-swap, ⊕-comm, double-additive, bit-times, top-rest, agree₂, ⊗-biadditive}
 
 -- ---- what is additive
 
@@ -100,8 +99,12 @@ four-additive-r w =
 abbrev gathered : ℕ → ℕ → ℕ
 gathered a b = summed (four (multiples a) b)
 
+gathered-biadditive : Biadditive gathered
+gathered-biadditive = (
+  λ b. after summed (λ a. four (multiples a) b) summed-additive (after (λ w. four w b) multiples (four-additive-l b) (shifts-additive 8)),
+  λ a. after summed (four (multiples a)) summed-additive (four-additive-r (multiples a)),
+)
+
 pub by-words : (a b : ℕ) → a < 256 → b < 256 → gathered a b ≡ a ⊗ b
 unfolding _⊗_ times double shifts masks
-by-words =
-    agree₂ gathered _⊗_ (λ b. after summed (λ a. four (multiples a) b) summed-additive (after (λ w. four w b) multiples (four-additive-l b) (shifts-additive 8)))
-    (λ a. after summed (four (multiples a)) summed-additive (four-additive-r (multiples a))) (λ b x y. ⊗-⊕-r x y b) ⊗-⊕-l tt
+by-words = agree₂ gathered _⊗_ gathered-biadditive ⊗-biadditive tt

@@ -25,16 +25,16 @@ impl Element {
         Element(self.0 ^ other.0)
     }
 
-    // A word has x^t times self, t from 0 to 7, a byte each; those whose bit of other is one are summed.
+    // One word has x^0 to x^7 times self, a byte each. Those whose bit of other is one are summed: four and four, two and two, one and one.
     pub fn product(self, other: Element) -> Element
         ensures { λ r. ⌜ r .0 ≡ self .0 ⊗ other .0 ⌝ }
     {
         let word = low_multiples(self.0 % 16) ^ high_multiples(self.0 / 16);
-        let low = (word % 4294967296) as u32;
-        let high = (word / 4294967296) as u32;
+        let low = (word % 0x100000000) as u32;
+        let high = (word >> 32) as u32;
         let four = (low & mask(other.0 % 16)) ^ (high & mask(other.0 / 16));
-        let two = four ^ (four / 65536);
-        let one = two ^ (two / 256);
+        let two = four ^ (four >> 16);
+        let one = two ^ (two >> 8);
         Element((one % 256) as u8)
     }
 
