@@ -1,5 +1,6 @@
-//! The benchmark: time per block of the C library and of the plain Rust program, side by side in one run; then the library's time for a grid
-//! that is fed in pieces, beside its own time for the whole grid. `run-bench` compiles and runs it.
+//! The benchmark: time per block of the C library and of the plain Rust program, side by side in one run; then the outer parity of ten
+//! thousand blocks by both; then the library's time for a grid that is fed in pieces, beside its own time for the whole grid. `run-bench`
+//! compiles and runs it.
 
 #[allow(dead_code)]
 mod library;
@@ -112,6 +113,54 @@ fn time(mode: u8, k: u8, job: &Job) -> (f64, f64) {
     (median(library), median(plain))
 }
 
+/// Blocks and rounds of Req 03's measure.
+const BLOCKS: usize = 10_000;
+const ROUNDS: usize = 9;
+
+/// Blocks one after the other, each with data of its own; their parity is still zero.
+fn many_blocks(k: u8) -> Vec<u8> {
+    let mut state = 1u32;
+    let mut next = || {
+        state = state.wrapping_mul(1_664_525).wrapping_add(1_013_904_223);
+        (state >> 24) as u8
+    };
+    (0..BLOCKS * BLOCK).map(|i| if i % BLOCK < PACKET * k as usize { next() } else { 0 }).collect()
+}
+
+/// Microseconds a block for the parity of all of them.
+fn time_parity(k: u8, blocks: &mut [u8], parity: fn(u8, &mut [u8]) -> u32) -> f64 {
+    let start = Instant::now();
+    let numbers = blocks.chunks_exact_mut(BLOCK).map(|block| parity(black_box(k), block)).max();
+    let time = start.elapsed();
+    assert_eq!(numbers, Some(0), "every block must be done");
+    time.as_secs_f64() * 1e6 / BLOCKS as f64
+}
+
+fn print_parity() {
+    println!();
+    println!("Outer parity of {BLOCKS} different blocks, {ROUNDS} rounds, both programs in turn: microseconds a block, the median round's (the");
+    println!("least to the most), and the ratio of the medians (of a round's two times, the least to the most).");
+    println!("{:<5}{:<5}{:>24}{:>24}{:>24}", "K", "r", "library", "plain", "ratio");
+    for k in [8, 12, 14] {
+        let (mut for_library, mut for_plain) = (many_blocks(k), many_blocks(k));
+        let (mut library, mut plain, mut ratios) = (Vec::new(), Vec::new(), Vec::new());
+        for _ in 0..ROUNDS {
+            library.push(time_parity(k, &mut for_library, library::parity));
+            plain.push(time_parity(k, &mut for_plain, plain::parity));
+            ratios.push(library[library.len() - 1] / plain[plain.len() - 1]);
+        }
+        assert!(for_library == for_plain, "both programs must make the same parity");
+        let ratio = median(library.clone()) / median(plain.clone());
+        println!("{k:<5}{:<5}{:>24}{:>24}{:>24}", 16 - k, with_ends(median(library.clone()), &library), with_ends(median(plain.clone()), &plain), with_ends(ratio, &ratios));
+    }
+}
+
+/// A figure, with the least and the most of those it stands for.
+fn with_ends(figure: f64, of: &[f64]) -> String {
+    let (least, most) = of.iter().fold((f64::MAX, 0.0f64), |(least, most), &x| (least.min(x), most.max(x)));
+    format!("{figure:.2} ({least:.2} to {most:.2})")
+}
+
 /// Zeroes the state, feeds the grid in pieces of N cells, and asks once.
 fn fed<const N: usize>(b: &mut Bench) -> u32 {
     b.state.fill(0);
@@ -170,5 +219,6 @@ fn main() {
             println!("{mode:<6}{k:<5}{:<20}{library:>10.1}{plain:>10.1}{:>8.2}", job.0, library / plain);
         }
     }
+    print_parity();
     print_cuttings();
 }

@@ -43,6 +43,12 @@ and-additive =
     ∙ sym (xor-mod (bitAnd a c) (bitAnd b c) 1 ∙ ap₂ _⊕_ (and-mod a c 1) (and-mod b c 1)) in
     omega (arith, halves, digits)
 
+and-l : (f : ℕ → ℕ) → Additive f → (c : ℕ) → Additive (λ a. bitAnd (f a) c)
+and-l f hf c a b = ap (λ (x : ℕ). bitAnd x c) (hf a b) ∙ and-additive (f a) (f b) c
+
+and-r : (c : ℕ) (f : ℕ → ℕ) → Additive f → Additive (λ a. bitAnd c (f a))
+and-r c f hf a b = and-comm c (f (a ⊕ b)) ∙ and-l f hf c a b ∙ ap₂ _⊕_ (and-comm (f a) c) (and-comm (f b) c)
+
 shifts-additive : (n : ℕ) → Additive (shifts n)
 unfolding shifts
 shifts-additive zero = λ a b. refl
@@ -57,14 +63,14 @@ masks-additive (suc n) =
     both (λ b. b % 2 * 255) (λ b. masks n (b / 2) * 256) (bit-times 255)
     (after (λ b. b * 256) (λ b. masks n (b / 2)) (left-additive 8) (after (masks n) (λ b. b / 2) (masks-additive n) (right-additive 1)))
 
--- ---- the halves of the first factor
+-- ---- the word of the first factor, from its halves
 
 pub halves : (a : ℕ) → multiples (a % 16) ⊕ multiples (a / 16 * 16) ≡ multiples a
 halves a = sym (shifts-additive 8 (a % 16) (a / 16 * 16)) ∙ ap multiples (⊕-comm (a % 16) (a / 16 * 16) ∙ top-rest 4 a)
 
--- ---- what is gathered from a word for the second factor
+-- ---- what is gathered from it for the second factor
 
--- of a word's eight bytes, those that a nibble of b wants, four and four; and then the sum of these four
+-- those of the word's low four bytes that the low half of b wants, and of its high four those that the high half wants
 abbrev four : ℕ → ℕ → ℕ
 four w b = bitAnd (w % 2 ^ 32) (masks 4 (b % 16)) ⊕ bitAnd (w / 2 ^ 32) (masks 4 (b / 16))
 
@@ -74,8 +80,11 @@ folded k w = w ⊕ w / 2 ^ k
 abbrev summed : ℕ → ℕ
 summed w = folded 8 (folded 16 w) % 256
 
+abbrev gathered : ℕ → ℕ → ℕ
+gathered a b = summed (four (multiples a) b)
+
 folded-additive : (k : ℕ) → Additive (folded k)
-folded-additive k = both (λ a. a) (λ a. a / 2 ^ k) (λ a b. refl) (right-additive k)
+folded-additive k = both (λ w. w) (λ w. w / 2 ^ k) (λ a b. refl) (right-additive k)
 
 summed-additive : Additive summed
 summed-additive =
@@ -84,20 +93,13 @@ summed-additive =
 four-additive-l : (b : ℕ) → Additive (λ w. four w b)
 four-additive-l b =
     both (λ w. bitAnd (w % 2 ^ 32) (masks 4 (b % 16))) (λ w. bitAnd (w / 2 ^ 32) (masks 4 (b / 16)))
-    (after (λ x. bitAnd x (masks 4 (b % 16))) (λ w. w % 2 ^ 32) (λ x y. and-additive x y (masks 4 (b % 16))) (rest-additive 32))
-    (after (λ x. bitAnd x (masks 4 (b / 16))) (λ w. w / 2 ^ 32) (λ x y. and-additive x y (masks 4 (b / 16))) (right-additive 32))
-
-and-additive-r : (c : ℕ) → Additive (bitAnd c)
-and-additive-r c a b = and-comm c (a ⊕ b) ∙ and-additive a b c ∙ ap₂ _⊕_ (and-comm a c) (and-comm b c)
+    (and-l (λ w. w % 2 ^ 32) (rest-additive 32) (masks 4 (b % 16))) (and-l (λ w. w / 2 ^ 32) (right-additive 32) (masks 4 (b / 16)))
 
 four-additive-r : (w : ℕ) → Additive (four w)
 four-additive-r w =
     both (λ b. bitAnd (w % 2 ^ 32) (masks 4 (b % 16))) (λ b. bitAnd (w / 2 ^ 32) (masks 4 (b / 16)))
-    (after (bitAnd (w % 2 ^ 32)) (λ b. masks 4 (b % 16)) (and-additive-r (w % 2 ^ 32)) (after (masks 4) (λ b. b % 16) (masks-additive 4) (rest-additive 4)))
-    (after (bitAnd (w / 2 ^ 32)) (λ b. masks 4 (b / 16)) (and-additive-r (w / 2 ^ 32)) (after (masks 4) (λ b. b / 16) (masks-additive 4) (right-additive 4)))
-
-abbrev gathered : ℕ → ℕ → ℕ
-gathered a b = summed (four (multiples a) b)
+    (and-r (w % 2 ^ 32) (λ b. masks 4 (b % 16)) (after (masks 4) (λ b. b % 16) (masks-additive 4) (rest-additive 4)))
+    (and-r (w / 2 ^ 32) (λ b. masks 4 (b / 16)) (after (masks 4) (λ b. b / 16) (masks-additive 4) (right-additive 4)))
 
 gathered-biadditive : Biadditive gathered
 gathered-biadditive = (
