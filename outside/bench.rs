@@ -143,15 +143,16 @@ fn print_parity() {
     println!("{:<5}{:<5}{:>24}{:>24}{:>24}", "K", "r", "library", "plain", "ratio");
     for k in [8, 12, 14] {
         let (mut for_library, mut for_plain) = (many_blocks(k), many_blocks(k));
-        let (mut library, mut plain, mut ratios) = (Vec::new(), Vec::new(), Vec::new());
+        let (mut library, mut plain) = (Vec::new(), Vec::new());
         for _ in 0..ROUNDS {
             library.push(time_parity(k, &mut for_library, library::parity));
             plain.push(time_parity(k, &mut for_plain, plain::parity));
-            ratios.push(library[library.len() - 1] / plain[plain.len() - 1]);
         }
         assert!(for_library == for_plain, "both programs must make the same parity");
-        let ratio = median(library.clone()) / median(plain.clone());
-        println!("{k:<5}{:<5}{:>24}{:>24}{:>24}", 16 - k, with_ends(median(library.clone()), &library), with_ends(median(plain.clone()), &plain), with_ends(ratio, &ratios));
+        let ratios: Vec<f64> = library.iter().zip(&plain).map(|(ours, theirs)| ours / theirs).collect();
+        let (ours, theirs) = (median(library.clone()), median(plain.clone()));
+        let [ours, theirs, ratio] = [with_ends(ours, &library), with_ends(theirs, &plain), with_ends(ours / theirs, &ratios)];
+        println!("{k:<5}{:<5}{ours:>24}{theirs:>24}{ratio:>24}", 16 - k);
     }
 }
 

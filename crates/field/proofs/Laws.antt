@@ -49,7 +49,7 @@ pub ⊕-assoc : (a b c : ℕ) → (a ⊕ b) ⊕ c ≡ a ⊕ (b ⊕ c)
     omega (arith, halves, xor-add-and (a ⊕ b) c, xor-add-and a b, xor-add-and a (b ⊕ c), xor-add-and b c)
 
 -- two sums, added
-pub ⊕-swap : (a b c d : ℕ) → (a ⊕ b) ⊕ (c ⊕ d) ≡ (a ⊕ c) ⊕ (b ⊕ d)
+⊕-swap : (a b c d : ℕ) → (a ⊕ b) ⊕ (c ⊕ d) ≡ (a ⊕ c) ⊕ (b ⊕ d)
 ⊕-swap a b c d =
     ⊕-assoc a b (c ⊕ d)
     ∙ ap (λ (x : ℕ). a ⊕ x) (sym (⊕-assoc b c d) ∙ ap (λ (x : ℕ). x ⊕ d) (⊕-comm b c) ∙ ⊕-assoc c b d)
@@ -63,7 +63,22 @@ Additive f = (a b : ℕ) → f (a ⊕ b) ≡ f a ⊕ f b
 additive-zero : (f : ℕ → ℕ) → Additive f → f 0 ≡ 0
 additive-zero f h = h 0 0 ∙ ⊕-self (f 0)
 
--- a number is the sum of its highest digit's part and the rest
+pub after : (f g : ℕ → ℕ) → Additive f → Additive g → Additive (λ a. f (g a))
+after f g hf hg a b = ap f (hg a b) ∙ hf (g a) (g b)
+
+pub both : (f g : ℕ → ℕ) → Additive f → Additive g → Additive (λ a. f a ⊕ g a)
+both f g hf hg a b = ap₂ _⊕_ (hf a b) (hg a b) ∙ ⊕-swap (f a) (f b) (g a) (g b)
+
+pub left-additive : (k : ℕ) → Additive (λ a. a * 2 ^ k)
+left-additive k a b = sym (simp add-zero at (xor-block k a b 0 0 (pow-pos k) (pow-pos k)))
+
+pub right-additive : (k : ℕ) → Additive (λ a. a / 2 ^ k)
+right-additive k a b = xor-shr a b k
+
+pub rest-additive : (k : ℕ) → Additive (λ a. a % 2 ^ k)
+rest-additive k a b = xor-mod a b k
+
+-- a number is the sum of its part from digit n on and the rest
 pub top-rest : (n a : ℕ) → a / 2 ^ n * 2 ^ n ⊕ a % 2 ^ n ≡ a
 top-rest n a = xor-shifted (a / 2 ^ n) n (a % 2 ^ n) (mod-lt a (pow-pos n)) ∙ split a n
 
@@ -96,24 +111,23 @@ times-bit c a b = bit (λ (x : ℕ). x * (a ⊕ b) ≡ x * a ⊕ x * b) (simp ze
 
 pub double-additive : Additive double
 unfolding double
-double-additive a b =
-    ap₂ _⊕_ (ap (λ (x : ℕ). x % 256) (sym (simp add-zero at (xor-block 1 a b 0 0 (lit< tt) (lit< tt)))) ∙ xor-mod (a * 2) (b * 2) 8)
-    (ap (λ (x : ℕ). x % 2 * polynomial) (xor-shr a b 7) ∙ bit-times polynomial (a / 128) (b / 128))
-    ∙ ⊕-swap (a * 2 % 256) (b * 2 % 256) _ _
+double-additive =
+    both (λ a. a * 2 % 256) (λ a. a / 128 % 2 * polynomial) (after (λ a. a % 256) (λ a. a * 2) (rest-additive 8) (left-additive 1))
+    (after (λ a. a % 2 * polynomial) (λ a. a / 128) (bit-times polynomial) (right-additive 7))
 
 times-additive-l : (n c : ℕ) → Additive (λ a. times n a c)
 unfolding times
-times-additive-l zero c a b = refl
-times-additive-l (suc n) c a b =
-    ap₂ _⊕_ (times-bit c a b) (ap (λ (x : ℕ). times n x (c / 2)) (double-additive a b) ∙ times-additive-l n (c / 2) (double a) (double b))
-    ∙ ⊕-swap (c % 2 * a) (c % 2 * b) _ _
+times-additive-l zero c = λ a b. refl
+times-additive-l (suc n) c =
+    both (λ a. c % 2 * a) (λ a. times n (double a) (c / 2)) (times-bit c)
+    (after (λ a. times n a (c / 2)) double (times-additive-l n (c / 2)) double-additive)
 
 times-additive-r : (n c : ℕ) → Additive (times n c)
 unfolding times
-times-additive-r zero c a b = refl
-times-additive-r (suc n) c a b =
-    ap₂ _⊕_ (bit-times c a b) (ap (times n (double c)) (xor-shr a b 1) ∙ times-additive-r n (double c) (a / 2) (b / 2))
-    ∙ ⊕-swap (a % 2 * c) (b % 2 * c) _ _
+times-additive-r zero c = λ a b. refl
+times-additive-r (suc n) c =
+    both (λ b. b % 2 * c) (λ b. times n (double c) (b / 2)) (bit-times c)
+    (after (times n (double c)) (λ b. b / 2) (times-additive-r n (double c)) (right-additive 1))
 
 pub ⊗-⊕-l : (a b c : ℕ) → a ⊗ (b ⊕ c) ≡ a ⊗ b ⊕ a ⊗ c
 unfolding _⊗_
@@ -151,6 +165,18 @@ unfolding _⊗_
 agree : (f g : ℕ → ℕ) → Additive f → Additive g → T (everyBelow 8 (λ i. eqb (f (2 ^ i)) (g (2 ^ i)))) → (a : ℕ) → a < 256 → f a ≡ g a
 agree f g hf hg t = from-powers f g hf hg 8 (λ i h. eqb→eq _ _ (every-at 8 (λ i. eqb (f (2 ^ i)) (g (2 ^ i))) t i h))
 
+-- and functions of two elements that are additive in each, if they do where both are 1, 2 .. 128
+abbrev pub Biadditive : (ℕ → ℕ → ℕ) → Type 0
+Biadditive f = ((b : ℕ) → Additive (λ a. f a b)) × ((a : ℕ) → Additive (f a))
+
+abbrev agreeing : (ℕ → ℕ → ℕ) → (ℕ → ℕ → ℕ) → ℕ → Bool
+agreeing f g j = everyBelow 8 (λ i. eqb (f (2 ^ i) (2 ^ j)) (g (2 ^ i) (2 ^ j)))
+
+pub agree₂ : (f g : ℕ → ℕ → ℕ) → Biadditive f → Biadditive g → T (everyBelow 8 (agreeing f g)) → (a b : ℕ) → a < 256 → b < 256 → f a b ≡ g a b
+agree₂ f g hf hg t a b ha =
+    from-powers (f a) (g a) (hf .1 a) (hg .1 a) 8
+    (λ j hj. agree (λ x. f x (2 ^ j)) (λ x. g x (2 ^ j)) (hf .0 (2 ^ j)) (hg .0 (2 ^ j)) (every-at 8 (agreeing f g) t j hj) a ha) b
+
 pub ⊗-one-l : (a : ℕ) → a < 256 → 1 ⊗ a ≡ a
 unfolding _⊗_ times double
 ⊗-one-l = agree (_⊗_ 1) (λ x. x) (⊗-⊕-l 1) (λ x y. refl) tt
@@ -163,18 +189,6 @@ double-is = agree double (_⊗_ 2) double-additive (⊗-⊕-l 2) tt
 ⊗-mod : (a b : ℕ) → (a % 256) ⊗ (b % 256) ≡ a ⊗ b
 unfolding _⊗_
 ⊗-mod a b = simp mod-mod
-
--- and functions of two elements that are additive in each, if they do at those of both
-abbrev pub Biadditive : (ℕ → ℕ → ℕ) → Type 0
-Biadditive f = ((b : ℕ) → Additive (λ a. f a b)) × ((a : ℕ) → Additive (f a))
-
-abbrev agreeing : (ℕ → ℕ → ℕ) → (ℕ → ℕ → ℕ) → ℕ → Bool
-agreeing f g j = everyBelow 8 (λ i. eqb (f (2 ^ i) (2 ^ j)) (g (2 ^ i) (2 ^ j)))
-
-pub agree₂ : (f g : ℕ → ℕ → ℕ) → Biadditive f → Biadditive g → T (everyBelow 8 (agreeing f g)) → (a b : ℕ) → a < 256 → b < 256 → f a b ≡ g a b
-agree₂ f g hf hg t a b ha =
-    from-powers (f a) (g a) (hf .1 a) (hg .1 a) 8
-    (λ j hj. agree (λ x. f x (2 ^ j)) (λ x. g x (2 ^ j)) (hf .0 (2 ^ j)) (hg .0 (2 ^ j)) (every-at 8 (agreeing f g) t j hj) a ha) b
 
 pub ⊗-biadditive : Biadditive _⊗_
 ⊗-biadditive = (λ c a b. ⊗-⊕-r a b c, ⊗-⊕-l)

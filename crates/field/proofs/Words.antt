@@ -2,31 +2,14 @@
 -- passes.
 use mathlib.Core.Path.{_≡_, refl, sym, ap, ap₂, _∙_}
 use Prim.Native.Nat.{ℕ, zero, suc, _*_, _/_, _%_, _^_, _<_}
-use native.Mathlib.Nat.{add-zero}
 use native.Mathlib.Omega.{arith}
 use lib.Arith.{bin-ind}
-use lib.Bits.{bitAnd, and-shr, and-mod, and-comm, xor-shr, xor-mod, xor-block}
-use lib.Pow.{pow-pos}
+use lib.Bits.{bitAnd, and-shr, and-mod, and-comm, xor-shr, xor-mod}
 use Rattle.rules.specs.Field.{_⊕_, _⊗_, times, double}
 use Rattle.field.specs.Words.{shifts, multiples, masks}
-use Rattle.field.proofs.Laws.{Additive, Biadditive, bit, ⊕-swap, ⊕-comm, double-additive, bit-times, top-rest, agree₂, ⊗-biadditive}
+use Rattle.field.proofs.Laws.{Additive, Biadditive, after, both, left-additive, right-additive, rest-additive, bit, ⊕-comm, double-additive, bit-times, top-rest, agree₂, ⊗-biadditive}
 
 -- ---- what is additive
-
-after : (f g : ℕ → ℕ) → Additive f → Additive g → Additive (λ a. f (g a))
-after f g hf hg a b = ap f (hg a b) ∙ hf (g a) (g b)
-
-both : (f g : ℕ → ℕ) → Additive f → Additive g → Additive (λ a. f a ⊕ g a)
-both f g hf hg a b = ap₂ _⊕_ (hf a b) (hg a b) ∙ ⊕-swap (f a) (f b) (g a) (g b)
-
-left-additive : (k : ℕ) → Additive (λ a. a * 2 ^ k)
-left-additive k a b = sym (simp add-zero at (xor-block k a b 0 0 (pow-pos k) (pow-pos k)))
-
-right-additive : (k : ℕ) → Additive (λ a. a / 2 ^ k)
-right-additive k a b = xor-shr a b k
-
-rest-additive : (k : ℕ) → Additive (λ a. a % 2 ^ k)
-rest-additive k a b = xor-mod a b k
 
 -- digit by digit
 and-additive : (a b c : ℕ) → bitAnd (a ⊕ b) c ≡ bitAnd a c ⊕ bitAnd b c

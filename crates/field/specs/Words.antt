@@ -1,4 +1,4 @@
--- Words of the product's tables: a word's byte t stands for bit t of a factor.
+-- Words of the product's tables: byte t of a word stands for bit t of the second factor.
 use Prim.Native.Nat.{ℕ, zero, suc, _*_, _/_, _%_}
 use Rattle.rules.specs.Field.{_⊕_, double}
 

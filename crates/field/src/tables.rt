@@ -1,5 +1,5 @@
-// Tables of the product, one entry for each half of a byte. Each is a `match`, which the compiler makes a table of constants; an array's elements
-// would be stored anew at every look.
+// Tables of the product, with an entry for each number that half a byte can be. Each is a `match`, which the compiler makes a table of constants; an
+// array's elements would be stored anew at every look.
 ghost use mathlib.Core.Path.{_≡_};
 ghost use Prim.Native.Nat.{_*_, _<_};
 ghost use Rattle.field.specs.Words.{multiples, masks};

@@ -2,10 +2,10 @@
 use mathlib.Core.Path.{_≡_}
 use mathlib.Core.List.{List, [], _∷_}
 use Prim.Native.Nat.{ℕ}
-use lib.Dec.{T, eqb, ltb}
-use Rattle.rules.specs.Bits.{everyBelow, row}
+use lib.Dec.{T, ltb}
+use Rattle.rules.specs.Bits.{row}
 use Rattle.field.specs.Words.{masks}
-use Rattle.field.proofs.Entries.{entry, last}
+use Rattle.field.proofs.Entries.{Right, entry, last}
 use Rattle.field.proofs.tables.mask.Statement.{statement}
 use Rattle.field.proofs.tables.mask.Tie as tie
 
@@ -19,7 +19,7 @@ words =
 abbrev rule : ℕ → ℕ
 rule n = masks 4 n
 
-test : T (everyBelow 16 (λ k. eqb (row words k) (rule k)))
+test : Right words rule
 unfolding masks
 test = tt
 
