@@ -4,7 +4,7 @@ ghost use mathlib.Core.Path.{_≡_};
 ghost use Prim.Native.Nat.{_*_, _<_};
 ghost use Rattle.field.specs.Words.{multiples, masks};
 
-// The multiples of n.
+// x^0 to x^7 times n, a byte each.
 pub(crate) fn low_multiples(n: u8) -> u64
     requires { ⌜ n < 16 ⌝ }
     ensures { λ r. ⌜ r ≡ multiples n ⌝ }
@@ -29,7 +29,7 @@ pub(crate) fn low_multiples(n: u8) -> u64
     }
 }
 
-// The multiples of 16 n.
+// The same for 16 n.
 pub(crate) fn high_multiples(n: u8) -> u64
     requires { ⌜ n < 16 ⌝ }
     ensures { λ r. ⌜ r ≡ multiples (n * 16) ⌝ }
