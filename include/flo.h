@@ -5,9 +5,10 @@
    that is passed.
 
    What a call writes is of two kinds:
-   - Answers, which come back through the result pointers: `lost` and `reasons` of flo_receive and flo_ask; `masks`, `level`, `mode`, `k` and
-     `seeds` of flo_read_profile; `profile` and `count` of flo_write_profile. They are written at every return, whatever they held before: on a
-     refusal with zeros, except that flo_receive and flo_ask still say at 9 and 10 which packets are lost and why.
+   - Answers, which come back through the result pointers: `place` of every call that has a profile; `lost` and `reasons` of flo_receive and
+     flo_ask; `masks`, `level`, `mode`, `k` and `seeds` of flo_read_profile; `profile` and `count` of flo_write_profile. They are written at every
+     return, whatever they held before: on a refusal with zeros, except that flo_receive and flo_ask still say at 9 and 10 which packets are lost and
+     why, and that `place` says at 40 to 44 where the faulty number is.
    - Lent memory: the cell lists of a send, the `state` of flo_feed, the `data` of flo_receive and flo_ask, the `block` of flo_parity. On a
      refusal it keeps what it held.
 
@@ -40,14 +41,17 @@ extern "C" {
 /* A thread with a stack of this many bytes can make every call. As measured on x86-64, a call takes at most 144,000 of them (docs/MEASURED.md). */
 #define FLO_STACK 262144
 
-/* Every call answers one of these numbers: the first of 1 to 5 that reading the profile finds, then the first that fits of the call's own, in the
-   order in which the call's comment names them, else 0. Only FLO_DONE is a success. */
+/* Every call answers one of these numbers: the first that reading the profile finds (1, 2, 3, 5, 40 to 44), then the first that fits of the call's
+   own, in the order in which the call's comment names them, else 0. Only FLO_DONE is a success.
+
+   At 40 to 44 `place` is the byte of the profile, from 0, where the faulty number begins; of the masks and of the seeds it is the first faulty one's.
+   The masks begin at bytes 3, 7, .. 31, the level at 38, mode and K are bytes 45 and 49, and the seeds begin at bytes 53, 57, .. . At every other
+   number, 0 too, `place` is zero. */
 enum flo_number {
     FLO_DONE = 0,
     FLO_CUT_IN_FIELD = 1,    /* the profile ends inside a field */
     FLO_WRONG_TAG = 2,       /* a tag other than the one due */
     FLO_WRONG_LENGTH = 3,    /* a field's declared length is wrong */
-    FLO_OUT_OF_RANGE = 4,    /* a value is outside its range */
     FLO_FIELD_MISSING = 5,   /* the profile ends between fields with one due */
     FLO_DATA_LENGTH = 6,     /* the data isn't k * 122 bytes long (flo_parity: the block isn't 1952) */
     FLO_CELLS_LENGTH = 7,    /* a cell list isn't 4096 x symbols long, or 4096 for a single symbol (flo_feed: the two lists differ in length) */
@@ -56,7 +60,12 @@ enum flo_number {
     FLO_NO_CODEWORD = 10,    /* few enough are lost, but some accepted packet can't be right: in a column no codeword agrees */
     FLO_TOO_MANY_CELLS = 16, /* the piece reaches past the grid's end */
     FLO_CELLS_MISSING = 17,  /* the grid's last cell hasn't come yet */
-    FLO_NO_SUCH_STATE = 22   /* no feeding with this profile leaves such a state */
+    FLO_NO_SUCH_STATE = 22,  /* no feeding with this profile leaves such a state */
+    FLO_BAD_MASK = 40,       /* a mask isn't from 1 to 2^20 - 1 */
+    FLO_BAD_LEVEL = 41,      /* the level isn't positive, finite and normal */
+    FLO_BAD_MODE = 42,       /* the mode isn't 0 or 1 */
+    FLO_BAD_K = 43,          /* K isn't 8, 12 or 14 */
+    FLO_BAD_SEED = 44        /* a seed isn't from 1 to 2^20 - 1, or an unused one isn't zero */
 };
 
 /* Why flo_receive and flo_ask hold a packet for lost: the first that fits. */
@@ -69,26 +78,27 @@ enum flo_reason {
     FLO_CODED_BITS = 15      /* its coded bits aren't those that its data gives */
 };
 
-/* Fills the whole grid: 0, 1 to 5, 6, 7. */
+/* Fills the whole grid: 0, the profile's, 6, 7. */
 uint32_t flo_send(const uint8_t *profile, size_t profile_length, const uint8_t *data, size_t data_length, float *firsts, size_t firsts_length,
-                  float *seconds, size_t seconds_length);
+                  float *seconds, size_t seconds_length, size_t *place);
 
-/* Fills two lists of 4096 with that part of the whole grid, symbols from 0: 0, 1 to 5, 6, 7, 8. */
+/* Fills two lists of 4096 with that part of the whole grid, symbols from 0: 0, the profile's, 6, 7, 8. */
 uint32_t flo_send_symbol(const uint8_t *profile, size_t profile_length, const uint8_t *data, size_t data_length, size_t symbol, float *firsts,
-                         size_t firsts_length, float *seconds, size_t seconds_length);
+                         size_t firsts_length, float *seconds, size_t seconds_length, size_t *place);
 
-/* Receives a whole grid: 0, 1 to 5, 6, 7, 9, 10. Bit p of marks says that packet p is lost. At 0 the first k packets are written to data. Bit p of
-   lost is set, and reasons[p] isn't 0, exactly when packet p is lost; all zero at every number but 0, 9 and 10. */
+/* Receives a whole grid: 0, the profile's, 6, 7, 9, 10. Bit p of marks says that packet p is lost. At 0 the first k packets are written to data.
+   Bit p of lost is set, and reasons[p] isn't 0, exactly when packet p is lost; all zero at every number but 0, 9 and 10. */
 uint32_t flo_receive(const uint8_t *profile, size_t profile_length, uint16_t marks, const float *firsts, size_t firsts_length,
-                     const float *seconds, size_t seconds_length, uint8_t *data, size_t data_length, uint16_t *lost, uint8_t reasons[16]);
+                     const float *seconds, size_t seconds_length, uint8_t *data, size_t data_length, uint16_t *lost, uint8_t reasons[16],
+                     size_t *place);
 
 /* A grid whose cells come in pieces. The state is the caller's: FLO_STATE bytes, all zero before a grid's first piece. Each flo_feed takes the cells
    that come next, in the grid's order (symbol after symbol), however many there are: one, none, the whole grid. Once the last has come, flo_ask
    answers what flo_receive would for the whole grid, however it was cut.
 
        memset(state, 0, FLO_STATE);
-       for each piece: flo_feed(profile, profile_length, state, FLO_STATE, firsts, count, seconds, count);
-       flo_ask(profile, profile_length, marks, state, FLO_STATE, data, data_length, &lost, reasons);
+       for each piece: flo_feed(profile, profile_length, state, FLO_STATE, firsts, count, seconds, count, &place);
+       flo_ask(profile, profile_length, marks, state, FLO_STATE, data, data_length, &lost, reasons, &place);
 
    A refused piece isn't taken, not even in part: put right, it can be fed again. Asking changes nothing: one may ask early, which is answered with
    FLO_CELLS_MISSING, then feed on, and ask again, with other marks too.
@@ -101,24 +111,26 @@ uint32_t flo_receive(const uint8_t *profile, size_t profile_length, uint16_t mar
    Every other state, and one of another length, is FLO_NO_SUCH_STATE. Of the profile, the state depends on the mode alone, and a state that was fed
    in the other mode is noticed only where it has more cells than the grid. */
 
-/* Takes a piece, which may be empty: 0, 1 to 5, 22, 7, 16. At 0 its cells are in the state, at every other number the state is as it was. */
+/* Takes a piece, which may be empty: 0, the profile's, 22, 7, 16. At 0 its cells are in the state, at every other number the state is as it was. */
 uint32_t flo_feed(const uint8_t *profile, size_t profile_length, uint8_t *state, size_t state_length, const float *firsts, size_t firsts_length,
-                  const float *seconds, size_t seconds_length);
+                  const float *seconds, size_t seconds_length, size_t *place);
 
-/* Receives the grid that was fed: 0, 1 to 5, 22, 6, 17, 9, 10. Marks, data, lost and reasons are as for flo_receive. */
+/* Receives the grid that was fed: 0, the profile's, 22, 6, 17, 9, 10. Marks, data, lost and reasons are as for flo_receive. */
 uint32_t flo_ask(const uint8_t *profile, size_t profile_length, uint16_t marks, const uint8_t *state, size_t state_length, uint8_t *data,
-                 size_t data_length, uint16_t *lost, uint8_t reasons[16]);
+                 size_t data_length, uint16_t *lost, uint8_t reasons[16], size_t *place);
 
-/* Reads a profile: 0, 1 to 5. On a refusal all numbers are zero and the level is +0.0. */
+/* Reads a profile: 0, the profile's. On a refusal all numbers are zero and the level is +0.0. */
 uint32_t flo_read_profile(const uint8_t *profile, size_t profile_length, uint32_t masks[8], float *level, uint8_t *mode, uint8_t *k,
-                          uint32_t seeds[48]);
+                          uint32_t seeds[48], size_t *place);
 
-/* Writes a profile: 0, 4. The bytes after the written ones are zero; on a refusal all are, and the count is 0. */
+/* Writes a profile: 0, 40 to 44, tested in this order; the place is counted as if the value had been written out. An unused seed (mode 1 uses 32 of
+   the 48) that isn't zero is 44 too, with the place where it would stand. The bytes after the written ones are zero; on a refusal all are, and the
+   count is 0. */
 uint32_t flo_write_profile(const uint32_t masks[8], float level, uint8_t mode, uint8_t k, const uint32_t seeds[48], uint8_t profile[245],
-                           size_t *count);
+                           size_t *count, size_t *place);
 
-/* Fills packets k to 15 of a block of 16 packets of 122 bytes with the outer parity of the k before them: 0, 4 where k isn't 8, 12 or 14, 6 where
-   the block isn't 1952 bytes long. */
+/* Fills packets k to 15 of a block of 16 packets of 122 bytes with the outer parity of the k before them: 0, 43 where k isn't 8, 12 or 14, 6 where
+   the block isn't 1952 bytes long. There is no profile here, and so no place. */
 uint32_t flo_parity(uint8_t k, uint8_t *block, size_t block_length);
 
 #ifdef __cplusplus
