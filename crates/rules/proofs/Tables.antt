@@ -14,7 +14,7 @@ use Rattle.rules.specs.Interleaver.{tableD}
 use Rattle.rules.specs.Turbo.{Rate, half, third, state, ending, codedBit, codedLength}
 use Rattle.rules.specs.Cells.{placeOf, pointAt}
 use Rattle.rules.specs.Examples.{firstOf}
-use Rattle.rules.specs.Answers.{isNumber, isReason, hasRead}
+use Rattle.rules.specs.Answers.{isNumber, namesField, isAnswer, isReason, hasRead}
 use Rattle.rules.specs.Slots.{symbols}
 use Rattle.rules.specs.Points.{decide}
 use Rattle.rules.specs.Pieces.{stateBytes, cellByte, isCellByte}
@@ -72,8 +72,15 @@ passing zero k f = []
 passing (suc n) k f = let rest = passing n (suc k) f in pick (f k) (k ∷ rest) rest
 
 -- The table of what the desk says back has these numbers and no other below a byte's 256, receiving reads the cells at these, and gives these reasons
-pub numbers-listed : passing 256 0 isNumber ≡ 0 ∷ 1 ∷ 2 ∷ 3 ∷ 4 ∷ 5 ∷ 6 ∷ 7 ∷ 8 ∷ 9 ∷ 10 ∷ 16 ∷ 17 ∷ 22 ∷ []
+pub numbers-listed : passing 256 0 isNumber ≡ 0 ∷ 1 ∷ 2 ∷ 3 ∷ 5 ∷ 6 ∷ 7 ∷ 8 ∷ 9 ∷ 10 ∷ 16 ∷ 17 ∷ 22 ∷ 40 ∷ 41 ∷ 42 ∷ 43 ∷ 44 ∷ []
 numbers-listed = refl
+
+-- of these, the ones that name a field and have a place
+pub named-listed : passing 256 0 namesField ≡ 40 ∷ 41 ∷ 42 ∷ 43 ∷ 44 ∷ []
+named-listed = refl
+
+pub placed-listed : passing 256 0 (λ n. isAnswer n 3) ≡ 40 ∷ 41 ∷ 42 ∷ 43 ∷ 44 ∷ []
+placed-listed = refl
 
 pub read-listed : passing 256 0 hasRead ≡ 0 ∷ 9 ∷ 10 ∷ []
 read-listed = refl

@@ -7,9 +7,18 @@ use Rattle.rules.specs.declared.Outcome.the-variants.{Done, BadK, BadLen
 use Rattle.rules.specs.declared.Coding.{Coding}
 use Rattle.rules.specs.declared.Coding.the-variants.{Coded, WrongMode, WrongLength}
 
--- 0 done, 1 to 10 the refusals; and those of document 02: 16 too many cells, 17 the last cell not yet seen, 22 no such state
+-- the numbers that name the field whose value is out of its range: 40 mask, 41 level, 42 mode, 43 K, 44 seed (Req 04)
+abbrev pub namesField : ℕ → Bool
+namesField n = leb 40 n && leb n 44
+
+-- 0 done, 1 to 3 and 5 to 10 the refusals; and those of document 02: 16 too many cells, 17 the last cell not yet seen, 22 no such state, and 40 to 44,
+-- which stand where 4 stood
 abbrev pub isNumber : ℕ → Bool
-isNumber n = leb n 10 || eqb n 16 || eqb n 17 || eqb n 22
+isNumber n = leb n 3 || leb 5 n && leb n 10 || eqb n 16 || eqb n 17 || eqb n 22 || namesField n
+
+-- a number of the table, and a place only where it names a field
+abbrev pub isAnswer : ℕ → ℕ → Bool
+isAnswer n place = isNumber n && (namesField n || eqb place 0)
 
 -- the numbers at which receiving has read the cells: mask and reasons are given, and something may count as accepted
 abbrev pub hasRead : ℕ → Bool
@@ -21,12 +30,12 @@ isReason n = eqb n 0 || leb 11 n && leb n 15
 
 abbrev pub outcomeNumber : Outcome → ℕ
 outcomeNumber Done = 0
-outcomeNumber BadK = 4
+outcomeNumber BadK = 43
 outcomeNumber BadLength = 6
 outcomeNumber TooManyLost = 9
 outcomeNumber NoCodeword = 10
 
 abbrev pub codingNumber : Coding → ℕ
 codingNumber Coded = 0
-codingNumber WrongMode = 4
+codingNumber WrongMode = 42
 codingNumber WrongLength = 6

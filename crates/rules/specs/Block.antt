@@ -15,8 +15,9 @@ use Rattle.rules.specs.Turbo.{dataPlace}
 use Rattle.rules.specs.Slots.{rate, slotBits, packetBits, symbols, coded, blockBit, slotNumber, scrambling}
 use Rattle.rules.specs.Points.{zeroPart, pointOf, firstPart, secondPart, doubtful, decide}
 use Rattle.rules.specs.Cells.{carried, gridCell}
-use Rattle.rules.specs.Profile.{inRange}
+use Rattle.rules.specs.Profile.{only, _or_, fault}
 use Rattle.rules.specs.Answers.{hasRead}
+use Rattle.rules.specs.declared.Answer.{Answer}
 use Rattle.rules.specs.declared.Profile.{Profile}
 use Rattle.rules.specs.declared.Carried.{Carried}
 use Rattle.rules.specs.declared.Carried.the-variants.{Nothing, PointOf}
@@ -54,25 +55,22 @@ pub record Cells (P : Profile) (d : List ℕ) (from n : ℕ) (firsts seconds : L
   pub firsts-are : (i : ℕ) → i < 4096 * n → getD firsts i zeroPart ≡ firstPart (sentCell P d (from + i / 4096) (i % 4096))
   pub seconds-are : (i : ℕ) → i < 4096 * n → getD seconds i zeroPart ≡ secondPart (sentCell P d (from + i / 4096) (i % 4096))
 
--- 4, 6, 7, the first that fits; else 0
-abbrev pub early : Profile → ℕ → ℕ → ℕ → ℕ → ℕ
+-- what is at fault in the profile, 6, 7, the first that fits; else 0
+abbrev pub early : Profile → ℕ → ℕ → ℕ → ℕ → Answer
 early P bytes firsts seconds cells =
-    pick (not (inRange P)) 4
-    (pick (not (eqb bytes (122 * P .k))) 6 (pick (not (eqb firsts cells && eqb seconds cells)) 7 0))
+    fault P or only (pick (not (eqb bytes (122 * P .k))) 6 (pick (not (eqb firsts cells && eqb seconds cells)) 7 0))
 
 -- what sending answers, and what the lists then hold
-pub record SendRule (P : Profile) (d : List ℕ) (firsts seconds firsts' seconds' : List Float) (number : ℕ) : Type 0 where
-  pub answer : number ≡ early P (length d) (length firsts) (length seconds) (4096 * symbols (P .mode))
-  pub cells : number ≡ 0 → Cells P d 0 (symbols (P .mode)) firsts' seconds'
-  pub kept : ¬ (number ≡ 0) → (firsts' ≡ firsts) × (seconds' ≡ seconds)
+pub record SendRule (P : Profile) (d : List ℕ) (firsts seconds firsts' seconds' : List Float) (a : Answer) : Type 0 where
+  pub answer : a ≡ early P (length d) (length firsts) (length seconds) (4096 * symbols (P .mode))
+  pub cells : a .number ≡ 0 → Cells P d 0 (symbols (P .mode)) firsts' seconds'
+  pub kept : ¬ (a .number ≡ 0) → (firsts' ≡ firsts) × (seconds' ≡ seconds)
 
--- the same for one symbol alone: 4, 6, 7, 8
-pub record SendSymbolRule (P : Profile) (d : List ℕ) (symbol : ℕ) (firsts seconds firsts' seconds' : List Float) (number : ℕ) : Type 0 where
-  pub answer : number
-      ≡ (let n = early P (length d) (length firsts) (length seconds) 4096 in
-      pick (eqb n 0) (pick (ltb symbol (symbols (P .mode))) 0 8) n)
-  pub cells : number ≡ 0 → Cells P d symbol 1 firsts' seconds'
-  pub kept : ¬ (number ≡ 0) → (firsts' ≡ firsts) × (seconds' ≡ seconds)
+-- the same for one symbol alone, with 8 as the last
+pub record SendSymbolRule (P : Profile) (d : List ℕ) (symbol : ℕ) (firsts seconds firsts' seconds' : List Float) (a : Answer) : Type 0 where
+  pub answer : a ≡ early P (length d) (length firsts) (length seconds) 4096 or only (pick (ltb symbol (symbols (P .mode))) 0 8)
+  pub cells : a .number ≡ 0 → Cells P d symbol 1 firsts' seconds'
+  pub kept : ¬ (a .number ≡ 0) → (firsts' ≡ firsts) × (seconds' ≡ seconds)
 
 -- ---- deciding
 
@@ -163,24 +161,25 @@ pub data Delivered (k lost : ℕ) (kept : ℕ → ℕ → ℕ) (before after : L
 
 -- what receiving answers for the decided bits v of a block
 pub record Judged (P : Profile) (marks : ℕ) (v : ℕ → ℕ) (before after : List ℕ) (a : Receipt) : Type 0 where
+  pub place-is : a .place ≡ 0
   pub reasons-long : length (a .reasons) ≡ 16
   pub reasons-are : (p : ℕ) → p < 16 → row (a .reasons) p ≡ reason (P .mode) (marked marks p) (packetPart (P .mode) v p)
   pub lost-is : a .lost ≡ lostMask 16 (row (a .reasons))
   pub delivered : Delivered (P .k) (a .lost) (λ p. byteOf (decidedData (P .mode) (packetPart (P .mode) v p))) before after (a .number)
 
-abbrev pub silence : ℕ → Receipt
-silence n = record { number = n; lost = 0; reasons = replicate 16 0 }
+abbrev pub silence : Answer → Receipt
+silence n = record { number = n .number; place = n .place; lost = 0; reasons = replicate 16 0 }
 
--- what is answered, and what the room for the data then holds, where the number n comes first: a refusal, then the judgement of the decided bits v
-pub record Answered (P : Profile) (marks n : ℕ) (v : ℕ → ℕ) (before after : List ℕ) (a : Receipt) : Type 0 where
-  pub refused : ¬ (n ≡ 0) → (a ≡ silence n) × (after ≡ before)
-  pub judged : n ≡ 0 → Judged P marks v before after a
+-- what is answered, and what the room for the data then holds, where the answer n comes first: a refusal, then the judgement of the decided bits v
+pub record Answered (P : Profile) (marks : ℕ) (n : Answer) (v : ℕ → ℕ) (before after : List ℕ) (a : Receipt) : Type 0 where
+  pub refused : ¬ (n .number ≡ 0) → (a ≡ silence n) × (after ≡ before)
+  pub judged : n .number ≡ 0 → Judged P marks v before after a
 
 -- packet p counts as accepted: the cells were read, and its reason is 0
 abbrev pub Accepted : Receipt → ℕ → Type 0
 Accepted a p = T (hasRead (a .number)) × (row (a .reasons) p ≡ 0)
 
--- 4, 6, 7, then the judgement
+-- what is at fault in the profile, 6, 7, then the judgement
 abbrev pub ReceiveRule : Profile → ℕ → List Float → List Float → List ℕ → List ℕ → Receipt → Type 0
 ReceiveRule P marks firsts seconds before after a =
     Answered P marks (early P (length before) (length firsts) (length seconds) (4096 * symbols (P .mode))) (decided P firsts seconds) before after a

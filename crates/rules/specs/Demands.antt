@@ -13,35 +13,37 @@ use Rattle.rules.specs.Packet.{packetBit}
 use Rattle.rules.specs.Outer.{marked}
 use Rattle.rules.specs.Slots.{slotBits, packetBits, slots, symbols, coded}
 use Rattle.rules.specs.Points.{zeroPart, doubtful}
-use Rattle.rules.specs.Profile.{inRange, Shape, reading, writing, blank, largest}
-use Rattle.rules.specs.Answers.{isNumber, isReason, hasRead}
+use Rattle.rules.specs.Profile.{fields, only, fault, inRange, Shape, reading, readAs, headed, spelt, writing, blank, largest}
+use Rattle.rules.specs.Answers.{isAnswer, namesField, isReason, hasRead}
 use Rattle.rules.specs.Block.{scrambler, sentBit, heard, Cells, SendRule, SendSymbolRule}
 use Rattle.rules.specs.Block.{Accepted, ReceiveRule}
 use Rattle.rules.specs.Pieces.{FeedRule, AskRule, Fed, LeftBy}
+use Rattle.rules.specs.declared.Answer.{Answer}
 use Rattle.rules.specs.declared.Profile.{Profile}
 use Rattle.rules.specs.declared.Receipt.{Receipt}
 
 -- ---- 1. Whatever arrives, the answer is a number from the table, and a refusal leaves the lent memory holding what it held
 
 pub record D1 : Type 0 where
-  pub send : (P : Profile) (d : List ℕ) (f s f' s' : List Float) (n : ℕ)
-      → SendRule P d f s f' s' n
-      → T (isNumber n) × (¬ (n ≡ 0) → (f' ≡ f) × (s' ≡ s))
-  pub send-symbol : (P : Profile) (d : List ℕ) (symbol : ℕ) (f s f' s' : List Float) (n : ℕ)
-      → SendSymbolRule P d symbol f s f' s' n
-      → T (isNumber n) × (¬ (n ≡ 0) → (f' ≡ f) × (s' ≡ s))
+  pub send : (P : Profile) (d : List ℕ) (f s f' s' : List Float) (a : Answer)
+      → SendRule P d f s f' s' a
+      → T (isAnswer (a .number) (a .place)) × (¬ (a .number ≡ 0) → (f' ≡ f) × (s' ≡ s))
+  pub send-symbol : (P : Profile) (d : List ℕ) (symbol : ℕ) (f s f' s' : List Float) (a : Answer)
+      → SendSymbolRule P d symbol f s f' s' a
+      → T (isAnswer (a .number) (a .place)) × (¬ (a .number ≡ 0) → (f' ≡ f) × (s' ≡ s))
   pub receive : (P : Profile) (marks : ℕ) (f s : List Float) (before after : List ℕ) (a : Receipt)
       → ReceiveRule P marks f s before after a
-      → T (isNumber (a .number)) × ((p : ℕ) → p < 16 → T (isReason (row (a .reasons) p))) × (¬ (a .number ≡ 0) → after ≡ before)
-  pub feed : (P : Profile) (f s : List Float) (before after : List ℕ) (n : ℕ)
-      → FeedRule P f s before after n
-      → T (isNumber n) × (¬ (n ≡ 0) → after ≡ before)
+      → T (isAnswer (a .number) (a .place)) × ((p : ℕ) → p < 16 → T (isReason (row (a .reasons) p))) × (¬ (a .number ≡ 0) → after ≡ before)
+  pub feed : (P : Profile) (f s : List Float) (before after : List ℕ) (a : Answer)
+      → FeedRule P f s before after a
+      → T (isAnswer (a .number) (a .place)) × (¬ (a .number ≡ 0) → after ≡ before)
   pub ask : (P : Profile) (marks : ℕ) (state before after : List ℕ) (a : Receipt)
       → AskRule P marks state before after a
-      → T (isNumber (a .number)) × ((p : ℕ) → p < 16 → T (isReason (row (a .reasons) p))) × (¬ (a .number ≡ 0) → after ≡ before)
-  pub read : (s : List ℕ) → T (isNumber (reading s .number)) × (¬ (reading s .number ≡ 0) → reading s .profile ≡ blank)
+      → T (isAnswer (a .number) (a .place)) × ((p : ℕ) → p < 16 → T (isReason (row (a .reasons) p))) × (¬ (a .number ≡ 0) → after ≡ before)
+  pub read : (s : List ℕ)
+      → T (isAnswer (reading s .number) (reading s .place)) × (¬ (reading s .number ≡ 0) → reading s .profile ≡ blank)
   pub write : (P : Profile)
-      → T (isNumber (writing P .number))
+      → T (isAnswer (writing P .number) (writing P .place))
       × (¬ (writing P .number ≡ 0) → (writing P .bytes ≡ replicate largest 0) × (writing P .count ≡ 0))
 
 -- ---- 2. Cell for cell, and accepted exactly when some packet has the bits that the cells decide to
@@ -63,34 +65,38 @@ SomePacket P f s p =
     (e : ℕ → ℕ) × ((j : ℕ) → j < 122 → e j < 256)
     × ((i : ℕ) → i < packetBits (P .mode) → heardInPlace P f s p i ≡ bitInPlace P e p i)
 
+-- an answer names a field exactly where the profile has a number out of its range, and then it is what is at fault there
+abbrev pub Names : Profile → Answer → Type 0
+Names P a = (T (namesField (a .number)) ↔ ¬ T (inRange P)) × (¬ T (inRange P) → a ≡ fault P)
+
 pub record D2 : Type 0 where
   -- sending a block fills the grid with exactly the cells that the rules give, and does so wherever profile and lengths are right
-  pub cells : (P : Profile) (d : List ℕ) (f s f' s' : List Float) (n : ℕ)
-      → SendRule P d f s f' s' n
-      → n ≡ 0
+  pub cells : (P : Profile) (d : List ℕ) (f s f' s' : List Float) (a : Answer)
+      → SendRule P d f s f' s' a
+      → a .number ≡ 0
       → Cells P d 0 (symbols (P .mode)) f' s'
-  pub sends : (P : Profile) (d : List ℕ) (f s f' s' : List Float) (n : ℕ)
-      → SendRule P d f s f' s' n
-      → (n ≡ 0)
+  pub sends : (P : Profile) (d : List ℕ) (f s f' s' : List Float) (a : Answer)
+      → SendRule P d f s f' s' a
+      → (a .number ≡ 0)
       ↔ (T (inRange P) × (length d ≡ 122 * P .k) × (length f ≡ 4096 * symbols (P .mode)) × (length s ≡ 4096 * symbols (P .mode)))
-  pub one-grid : (P : Profile) (d : List ℕ) (f s f' s' f'' s'' : List Float) (n m : ℕ)
-      → SendRule P d f s f' s' n
-      → SendRule P d f s f'' s'' m
-      → (n ≡ m) × (f' ≡ f'') × (s' ≡ s'')
+  pub one-grid : (P : Profile) (d : List ℕ) (f s f' s' f'' s'' : List Float) (a b : Answer)
+      → SendRule P d f s f' s' a
+      → SendRule P d f s f'' s'' b
+      → (a ≡ b) × (f' ≡ f'') × (s' ≡ s'')
   -- one symbol sent alone is that part of the whole grid
   pub symbol-of-grid : (P : Profile) (d : List ℕ) (symbol : ℕ) (f s f' s' F S F' S' : List Float) (i : ℕ)
-      → SendSymbolRule P d symbol f s f' s' 0
-      → SendRule P d F S F' S' 0
+      → SendSymbolRule P d symbol f s f' s' (only 0)
+      → SendRule P d F S F' S' (only 0)
       → i < 4096
       → (getD f' i zeroPart ≡ getD F' (4096 * symbol + i) zeroPart) × (getD s' i zeroPart ≡ getD S' (4096 * symbol + i) zeroPart)
-  pub symbol-cells : (P : Profile) (d : List ℕ) (symbol : ℕ) (f s f' s' : List Float) (n : ℕ)
-      → SendSymbolRule P d symbol f s f' s' n
-      → n ≡ 0
+  pub symbol-cells : (P : Profile) (d : List ℕ) (symbol : ℕ) (f s f' s' : List Float) (a : Answer)
+      → SendSymbolRule P d symbol f s f' s' a
+      → a .number ≡ 0
       → Cells P d symbol 1 f' s'
-  pub one-symbol : (P : Profile) (d : List ℕ) (symbol : ℕ) (f s f' s' f'' s'' : List Float) (n m : ℕ)
-      → SendSymbolRule P d symbol f s f' s' n
-      → SendSymbolRule P d symbol f s f'' s'' m
-      → (n ≡ m) × (f' ≡ f'') × (s' ≡ s'')
+  pub one-symbol : (P : Profile) (d : List ℕ) (symbol : ℕ) (f s f' s' f'' s'' : List Float) (a b : Answer)
+      → SendSymbolRule P d symbol f s f' s' a
+      → SendSymbolRule P d symbol f s f'' s'' b
+      → (a ≡ b) × (f' ≡ f'') × (s' ≡ s'')
   -- receiving reads the cells exactly where profile and lengths are right; at every other number mask and reasons are zero and nothing counts as accepted
   pub reads : (P : Profile) (marks : ℕ) (f s : List Float) (before after : List ℕ) (a : Receipt)
       → ReceiveRule P marks f s before after a
@@ -121,20 +127,20 @@ pub record D2 : Type 0 where
       → ReceiveRule P marks f s before after' a'
       → (a ≡ a') × (after ≡ after')
   -- 22 exactly where no pieces, fed with this profile from the new state on, leave the state
-  pub feed-22 : (P : Profile) (f s : List Float) (before after : List ℕ) (n : ℕ)
+  pub feed-22 : (P : Profile) (f s : List Float) (before after : List ℕ) (a : Answer)
       → ((i : ℕ) → row before i < 256)
-      → FeedRule P f s before after n
-      → (n ≡ 22) ↔ (T (inRange P) × ¬ LeftBy (FeedRule P) before)
+      → FeedRule P f s before after a
+      → (a .number ≡ 22) ↔ (T (inRange P) × ¬ LeftBy (FeedRule P) before)
   pub ask-22 : (P : Profile) (marks : ℕ) (state before after : List ℕ) (a : Receipt)
       → ((i : ℕ) → row state i < 256)
       → AskRule P marks state before after a
       → (a .number ≡ 22) ↔ (T (inRange P) × ¬ LeftBy (FeedRule P) state)
   -- after pieces that were fed, every piece is taken that has lists of one length and ends within the grid, and no other
-  pub takes : (P : Profile) (f s f' s' : List Float) (before after : List ℕ) (n : ℕ)
+  pub takes : (P : Profile) (f s f' s' : List Float) (before after : List ℕ) (a : Answer)
       → T (inRange P)
       → Fed (FeedRule P) f s before
-      → FeedRule P f' s' before after n
-      → (n ≡ 0) ↔ ((length f' ≡ length s') × (length f + length f' ≤ 4096 * symbols (P .mode)))
+      → FeedRule P f' s' before after a
+      → (a .number ≡ 0) ↔ ((length f' ≡ length s') × (length f + length f' ≤ 4096 * symbols (P .mode)))
   -- however a grid was cut into pieces, to ask at the end is to receive it whole
   pub any-cutting : (P : Profile) (marks : ℕ) (f s : List Float) (state before after : List ℕ) (a : Receipt)
       → Fed (FeedRule P) f s state
@@ -166,10 +172,10 @@ pub record D2 : Type 0 where
       → AskRule P marks state before after a
       → ¬ T (hasRead (a .number))
       → (a .lost ≡ 0) × (a .reasons ≡ replicate 16 0) × ((p : ℕ) → ¬ Accepted a p)
-  pub one-feeding : (P : Profile) (f s : List Float) (before after after' : List ℕ) (n m : ℕ)
-      → FeedRule P f s before after n
-      → FeedRule P f s before after' m
-      → (n ≡ m) × (after ≡ after')
+  pub one-feeding : (P : Profile) (f s : List Float) (before after after' : List ℕ) (a b : Answer)
+      → FeedRule P f s before after a
+      → FeedRule P f s before after' b
+      → (a ≡ b) × (after ≡ after')
   pub one-asking : (P : Profile) (marks : ℕ) (state before after after' : List ℕ) (a a' : Receipt)
       → AskRule P marks state before after a
       → AskRule P marks state before after' a'
@@ -180,11 +186,26 @@ pub record D2 : Type 0 where
   pub read-written : (P : Profile)
       → Shape P
       → writing P .number ≡ 0
-      → reading (take (writing P .count) (writing P .bytes)) ≡ record { number = 0; profile = P }
+      → reading (take (writing P .count) (writing P .bytes)) ≡ record { number = 0; place = 0; profile = P }
   pub written-read : (s : List ℕ)
       → ((i : ℕ) → row s i < 256)
       → reading s .number ≡ 0
-      → writing (reading s .profile) ≡ record { number = 0; bytes = s ++ replicate (largest - length s) 0; count = length s }
+      → writing (reading s .profile) ≡ record { number = 0; place = 0; bytes = s ++ replicate (largest - length s) 0; count = length s }
+  -- for bytes whose headers and lengths are right, reading answers what the value so read is refused with, or the value
+  pub read-refused : (s : List ℕ) → T (headed fields blank s) → reading s ≡ readAs (spelt fields blank s)
+  -- a call names a field exactly where the profile has a number out of its range, and then it answers what is at fault there
+  pub send-names : (P : Profile) (d : List ℕ) (f s f' s' : List Float) (a : Answer) → SendRule P d f s f' s' a → Names P a
+  pub symbol-names : (P : Profile) (d : List ℕ) (symbol : ℕ) (f s f' s' : List Float) (a : Answer)
+      → SendSymbolRule P d symbol f s f' s' a
+      → Names P a
+  pub receive-names : (P : Profile) (marks : ℕ) (f s : List Float) (before after : List ℕ) (a : Receipt)
+      → ReceiveRule P marks f s before after a
+      → Names P (record { number = a .number; place = a .place })
+  pub feed-names : (P : Profile) (f s : List Float) (before after : List ℕ) (a : Answer) → FeedRule P f s before after a → Names P a
+  pub ask-names : (P : Profile) (marks : ℕ) (state before after : List ℕ) (a : Receipt)
+      → AskRule P marks state before after a
+      → Names P (record { number = a .number; place = a .place })
+  pub write-names : (P : Profile) → Names P (record { number = writing P .number; place = writing P .place })
 
 -- ---- 3. The lost set exactly; at most r lost come back, more are refused
 

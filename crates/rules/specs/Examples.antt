@@ -1,9 +1,11 @@
--- Document 01, "Bench examples", those marked P, and the places that document 02 names: what the rules give, and what the documents say.
+-- Document 01, "Bench examples", those marked P, and the places that document 02 names (Req 01 of points, Req 04 of what is at fault in a profile): what
+-- the rules give, and what the documents say.
 use mathlib.Core.Path.{_≡_}
-use mathlib.Core.List.{List, [], _∷_}
-use Prim.Native.Nat.{ℕ, zero, suc}
+use mathlib.Core.List.{List, [], _∷_, _++_}
+use Prim.Native.Nat.{ℕ, zero, suc, _-_}
 use lib.Dec.{eqb}
 use lib.Ieee.{binary32, ofBits, toBits}
+use lib.ListN.{replicate}
 use Rattle.rules.specs.Bits.{pick, row}
 use Rattle.rules.specs.Outer.{remainder}
 use Rattle.rules.specs.Kept.{counter}
@@ -12,6 +14,8 @@ use Rattle.rules.specs.Turbo.{y0}
 use Rattle.rules.specs.Slots.{scrambling, symbolOf, slotNumber}
 use Rattle.rules.specs.Points.{pointOf, decide}
 use Rattle.rules.specs.Cells.{placeOf, pointAt, cellOf}
+use Rattle.rules.specs.Profile.{fault, reading, written}
+use Rattle.rules.specs.declared.Profile.{Profile}
 
 -- f 0, .., f (n - 1)
 abbrev pub firstOf : ℕ → (ℕ → ℕ) → List ℕ
@@ -38,6 +42,20 @@ Hold (e ∷ es) = (e .given ≡ e .said) × Hold es
 -- a level for P11: 1.5
 abbrev pub someLevel : ℕ
 someLevel = 0x3FC0_0000
+
+-- n ones, but x at i
+abbrev pub onesBut : ℕ → ℕ → ℕ → List ℕ
+onesBut n i x = replicate i 1 ++ (x ∷ replicate (n - 1 - i) 1)
+
+-- what a profile is refused with, as a value and as bytes; masks and seeds are given, and the level by its bits
+abbrev pub valueOf : List ℕ → ℕ → ℕ → ℕ → List ℕ → Profile
+valueOf masks level mode k seeds = record { masks = masks; level = ofBits binary32 level; mode = mode; k = k; seeds = seeds }
+
+abbrev pub asValue : Profile → List ℕ
+asValue P = fault P .number ∷ fault P .place ∷ []
+
+abbrev pub asBytes : Profile → List ℕ
+asBytes P = reading (written P) .number ∷ reading (written P) .place ∷ []
 
 abbrev pub examples : List Example
 examples =
@@ -76,4 +94,26 @@ examples =
     -- Req 01 the first kept places, and the points there
     ∷ record { given = firstOf 3 placeOf; said = 0 ∷ 256 ∷ 128 ∷ [] }
     ∷ record { given = pointAt 0 ∷ pointAt 256 ∷ pointAt 128 ∷ []; said = 0 ∷ 1 ∷ 2 ∷ [] }
+    -- Req 04 a faulty mask, the first, one in the middle and the last; the first of two
+    ∷ record { given = asValue (valueOf (onesBut 8 0 0) someLevel 0 14 (replicate 48 1)); said = 40 ∷ 3 ∷ [] }
+    ∷ record { given = asBytes (valueOf (onesBut 8 3 0) someLevel 0 14 (replicate 48 1)); said = 40 ∷ 15 ∷ [] }
+    ∷ record { given = asValue (valueOf (onesBut 8 7 0x10_0000) someLevel 0 14 (replicate 48 1)); said = 40 ∷ 31 ∷ [] }
+    ∷ record { given = asValue (valueOf (1 ∷ 1 ∷ 0 ∷ 0 ∷ 1 ∷ 1 ∷ 1 ∷ 0 ∷ []) 0 2 9 (replicate 48 0)); said = 40 ∷ 11 ∷ [] }
+    -- Req 04 level, mode and K, each at fault with what is tested after it
+    ∷ record { given = asValue (valueOf (replicate 8 1) 0 2 9 (replicate 48 0)); said = 41 ∷ 38 ∷ [] }
+    ∷ record { given = asBytes (valueOf (replicate 8 1) 0x7F80_0000 1 8 (replicate 48 1)); said = 41 ∷ 38 ∷ [] }
+    ∷ record { given = asValue (valueOf (replicate 8 1) someLevel 2 9 (replicate 48 0)); said = 42 ∷ 45 ∷ [] }
+    ∷ record { given = asBytes (valueOf (replicate 8 1) someLevel 2 12 (replicate 48 1)); said = 42 ∷ 45 ∷ [] }
+    ∷ record { given = asValue (valueOf (replicate 8 1) someLevel 1 9 (replicate 48 0)); said = 43 ∷ 49 ∷ [] }
+    ∷ record { given = asBytes (valueOf (replicate 8 1) someLevel 0 13 (replicate 48 1)); said = 43 ∷ 49 ∷ [] }
+    -- Req 04 a faulty seed, the first, one in the middle and the last of both modes; an unused one, the first and the last
+    ∷ record { given = asValue (valueOf (replicate 8 1) someLevel 1 14 (replicate 48 0)); said = 44 ∷ 53 ∷ [] }
+    ∷ record { given = asBytes (valueOf (replicate 8 1) someLevel 0 14 (onesBut 48 20 0x10_0000)); said = 44 ∷ 133 ∷ [] }
+    ∷ record { given = asBytes (valueOf (replicate 8 1) someLevel 1 14 (onesBut 48 31 0)); said = 44 ∷ 177 ∷ [] }
+    ∷ record { given = asValue (valueOf (replicate 8 1) someLevel 0 14 (onesBut 48 47 0)); said = 44 ∷ 241 ∷ [] }
+    ∷ record { given = asValue (valueOf (replicate 8 1) someLevel 1 14 (replicate 48 1)); said = 44 ∷ 181 ∷ [] }
+    ∷ record { given = asValue (valueOf (replicate 8 1) someLevel 1 14 (replicate 32 1 ++ (replicate 15 0 ++ (1 ∷ [])))); said = 44 ∷ 241 ∷ [] }
+    -- and one with nothing at fault
+    ∷ record { given = asValue (valueOf (replicate 8 0xF_FFFF) someLevel 0 8 (replicate 48 0xF_FFFF)); said = 0 ∷ 0 ∷ [] }
+    ∷ record { given = asBytes (valueOf (replicate 8 1) someLevel 1 12 (replicate 32 1 ++ replicate 16 0)); said = 0 ∷ 0 ∷ [] }
     ∷ []

@@ -62,10 +62,10 @@ marked mask p = mask / 2 ^ p % 2
 abbrev pub Agree : ℕ → (ℕ → ℕ) → (ℕ → ℕ) → Type 0
 Agree lost c d = (p : ℕ) → p < 16 → marked lost p ≡ 0 → c p ≡ d p
 
--- What making the parity of a block answers, by its paper number: 4 K isn't 8, 12 or 14, 6 the block isn't 1952 bytes, else 0; and what the block then
+-- What making the parity of a block answers, by its paper number: 43 K isn't 8, 12 or 14, 6 the block isn't 1952 bytes, else 0; and what the block then
 -- holds: at 0 every column is the codeword of its first K bytes, and a refusal leaves the block as it was.
 pub record ParityMade (k : ℕ) (before after : List ℕ) (number : ℕ) : Type 0 where
-  pub answer : number ≡ pick (not (isK k)) 4 (pick (not (eqb (length before) 1952)) 6 0)
+  pub answer : number ≡ pick (not (isK k)) 43 (pick (not (eqb (length before) 1952)) 6 0)
   pub long : number ≡ 0 → length after ≡ 1952
   pub columns : number ≡ 0 → (j : ℕ) → j < 122 → (p : ℕ) → p < 16 → column after j p ≡ encoded (16 - k) (column before j) p
   pub kept : ¬ (number ≡ 0) → after ≡ before
@@ -79,7 +79,7 @@ pub data Restored (k lost : ℕ) (before after : List ℕ) : ℕ → Type 0 wher
       → length after ≡ 1952
       → ((j : ℕ) → j < 122 → Codeword (16 - k) (column after j) × Agree lost (column after j) (column before j))
       → Restored k lost before after 0
-  badK : ¬ T (isK k) → after ≡ before → Restored k lost before after 4
+  badK : ¬ T (isK k) → after ≡ before → Restored k lost before after 43
   badLength : T (isK k) → ¬ (length before ≡ 1952) → after ≡ before → Restored k lost before after 6
   tooManyLost : T (isK k) → length before ≡ 1952 → 16 - k < ones lost → after ≡ before → Restored k lost before after 9
   noCodeword : T (isK k)

@@ -10,8 +10,9 @@ use Rattle.rules.specs.Bits.{pick, row, everyBelow}
 use Rattle.rules.specs.Slots.{symbols}
 use Rattle.rules.specs.Points.{zeroPart, decide}
 use Rattle.rules.specs.Cells.{gridCell}
-use Rattle.rules.specs.Profile.{inRange}
+use Rattle.rules.specs.Profile.{only, _or_, fault}
 use Rattle.rules.specs.Block.{understood, inBlock, Answered}
+use Rattle.rules.specs.declared.Answer.{Answer}
 use Rattle.rules.specs.declared.Profile.{Profile}
 use Rattle.rules.specs.declared.Receipt.{Receipt}
 
@@ -62,10 +63,11 @@ keptBit cells t i = decisionIn (cells (gridCell t (i / 2))) i
 
 -- ---- feeding
 
--- 4, 22, 7, 16, the first that fits; else 0
-abbrev pub feeding : Profile → List ℕ → ℕ → ℕ → ℕ
+-- what is at fault in the profile, 22, 7, 16, the first that fits; else 0
+abbrev pub feeding : Profile → List ℕ → ℕ → ℕ → Answer
 feeding P state firsts seconds =
-    pick (not (inRange P)) 4
+    fault P
+    or only
     (pick (not (isState (4096 * symbols (P .mode)) state)) 22
     (pick (not (eqb firsts seconds)) 7 (pick (ltb (4096 * symbols (P .mode)) (seen state + firsts)) 16 0)))
 
@@ -80,31 +82,32 @@ pub record Put (f s : List Float) (before after : List ℕ) : Type 0 where
   pub cells : (c : ℕ) → 2 + c < stateBytes → cellIn after c ≡ fedCell (seen before) f s (cellIn before) c
 
 -- what feeding a piece answers, and what the state then is
-pub record FeedRule (P : Profile) (f s : List Float) (before after : List ℕ) (number : ℕ) : Type 0 where
-  pub answer : number ≡ feeding P before (length f) (length s)
+pub record FeedRule (P : Profile) (f s : List Float) (before after : List ℕ) (a : Answer) : Type 0 where
+  pub answer : a ≡ feeding P before (length f) (length s)
   pub long : length after ≡ length before
-  pub taken : number ≡ 0 → Put f s before after
-  pub kept : ¬ (number ≡ 0) → after ≡ before
+  pub taken : a .number ≡ 0 → Put f s before after
+  pub kept : ¬ (a .number ≡ 0) → after ≡ before
 
 -- Pieces fed one after the other from the new state on, none refused: all their cells, and the state that they leave. Feed says what feeding a
 -- piece answers.
-pub data Fed (Feed : List Float → List Float → List ℕ → List ℕ → ℕ → Type 0) : List Float → List Float → List ℕ → Type 0 where
+pub data Fed (Feed : List Float → List Float → List ℕ → List ℕ → Answer → Type 0) : List Float → List Float → List ℕ → Type 0 where
   new : Fed Feed [] [] newState
   piece : (f s f' s' : List Float) (before after : List ℕ)
       → Fed Feed f s before
-      → Feed f' s' before after 0
+      → Feed f' s' before after (only 0)
       → Fed Feed (f ++ f') (s ++ s') after
 
 -- some pieces leave the state
-abbrev pub LeftBy : (List Float → List Float → List ℕ → List ℕ → ℕ → Type 0) → List ℕ → Type 0
+abbrev pub LeftBy : (List Float → List Float → List ℕ → List ℕ → Answer → Type 0) → List ℕ → Type 0
 LeftBy Feed state = (f : List Float) × (s : List Float) × Fed Feed f s state
 
 -- ---- asking
 
--- 4, 22, 6, 17, the first that fits; else 0
-abbrev pub asking : Profile → List ℕ → ℕ → ℕ
+-- what is at fault in the profile, 22, 6, 17, the first that fits; else 0
+abbrev pub asking : Profile → List ℕ → ℕ → Answer
 asking P state bytes =
-    pick (not (inRange P)) 4
+    fault P
+    or only
     (pick (not (isState (4096 * symbols (P .mode)) state)) 22
     (pick (not (eqb bytes (122 * P .k))) 6 (pick (ltb (seen state) (4096 * symbols (P .mode))) 17 0)))
 

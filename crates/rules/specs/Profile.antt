@@ -1,15 +1,16 @@
--- Document 01, "Profile": the fields as a table that reading, writing and the range of a value walk.
+-- Document 01, "Profile", and document 02, Req 04: the fields as a table that reading, writing and finding what is at fault in a value walk.
 use mathlib.Core.Path.{_≡_}
 use mathlib.Core.Bool.{Bool, true, not, _&&_}
 use mathlib.Core.List.{List, [], _∷_, _++_}
 use Prim.Native.Nat.{ℕ, zero, suc, _+_, _-_, _*_, _/_, _%_, _^_}
-use lib.Dec.{T, eqb, ltb}
+use lib.Dec.{T, eqb, leb, ltb}
 use lib.Ieee.{Float, binary32, ofBits, toBits, le, fits}
 use lib.ListN.{length, take, drop, replicate}
 use Rattle.rules.specs.Bits.{pick, row}
 use Rattle.rules.specs.Outer.{isK}
 use Rattle.rules.specs.Slots.{isMode, slots}
 use Rattle.rules.specs.Points.{zeroPart}
+use Rattle.rules.specs.declared.Answer.{Answer}
 use Rattle.rules.specs.declared.Profile.{Profile}
 use Rattle.rules.specs.declared.Reading.{Reading}
 use Rattle.rules.specs.declared.Writing.{Writing}
@@ -34,10 +35,6 @@ allBytes (x ∷ xs) = wordBytes x ++ allBytes xs
 
 -- ---- ranges
 
-abbrev pub all : (ℕ → Bool) → List ℕ → Bool
-all f [] = true
-all f (x ∷ xs) = f x && all f xs
-
 -- masks and seeds: 1 to 2^20 - 1
 abbrev pub in20 : ℕ → Bool
 in20 x = ltb 0 x && ltb x (2 ^ 20)
@@ -46,53 +43,68 @@ in20 x = ltb 0 x && ltb x (2 ^ 20)
 abbrev pub isLevel : Float → Bool
 isLevel a = le (ofBits binary32 0x0080_0000) a && le a (ofBits binary32 0x7F7F_FFFF)
 
--- as many as there are slots, the unused ones zero
-abbrev pub areSeeds : ℕ → List ℕ → Bool
-areSeeds m l = all in20 (take (slots m) l) && all (eqb 0) (drop (slots m) l)
+-- one number of a field's value: how many bytes it has, and whether it is in its range
+pub record Tested : Type 0 where
+  pub size : ℕ
+  pub good : Bool
+
+abbrev pub one : ℕ → Bool → List Tested
+one size good = record { size = size; good = good } ∷ []
+
+-- several numbers of one size under one test
+abbrev pub each : ℕ → (ℕ → Bool) → List ℕ → List Tested
+each size f [] = []
+each size f (x ∷ xs) = record { size = size; good = f x } ∷ each size f xs
 
 -- ---- the fields
 
--- a tag, the length due after what was read before it, the profile with the value that stands in some bytes, whether that value is in its
--- range, and its bytes
+-- a tag; the number that refuses a value out of its range; the length due after what was read before the field; the profile with the value that stands in some
+-- bytes; the numbers of that value in the order of their bytes, each with its size and whether it is in its range; the bytes
 pub record Field : Type 0 where
   pub tag : ℕ
+  pub refusal : ℕ
   pub due : Profile → ℕ
   pub with : Profile → List ℕ → Profile
-  pub good : Profile → Bool
+  pub tested : Profile → List Tested
   pub bytes : Profile → List ℕ
 
 abbrev pub fields : List Field
 fields =
     record {
       tag = 1;
+      refusal = 40;
       due = λ p. 32;
       with = λ p s. record { masks = words 8 s; level = p .level; mode = p .mode; k = p .k; seeds = p .seeds };
-      good = λ p. all in20 (p .masks);
+      tested = λ p. each 4 in20 (p .masks);
       bytes = λ p. allBytes (p .masks);
     }
     ∷ record {
       tag = 2;
+      refusal = 41;
       due = λ p. 4;
       with = λ p s. record { masks = p .masks; level = ofBits binary32 (number s); mode = p .mode; k = p .k; seeds = p .seeds };
-      good = λ p. isLevel (p .level);
+      tested = λ p. one 4 (isLevel (p .level));
       bytes = λ p. wordBytes (toBits binary32 (p .level));
     }
     ∷ record {
       tag = 3;
+      refusal = 42;
       due = λ p. 1;
       with = λ p s. record { masks = p .masks; level = p .level; mode = number s; k = p .k; seeds = p .seeds };
-      good = λ p. isMode (p .mode);
+      tested = λ p. one 1 (isMode (p .mode));
       bytes = λ p. p .mode ∷ [];
     }
     ∷ record {
       tag = 4;
+      refusal = 43;
       due = λ p. 1;
       with = λ p s. record { masks = p .masks; level = p .level; mode = p .mode; k = number s; seeds = p .seeds };
-      good = λ p. isK (p .k);
+      tested = λ p. one 1 (isK (p .k));
       bytes = λ p. p .k ∷ [];
     }
     ∷ record {
       tag = 5;
+      refusal = 44;
       due = λ p. 4 * slots (p .mode);
       with = λ p s.
           record {
@@ -102,7 +114,8 @@ fields =
             k = p .k;
             seeds = words (slots (p .mode)) s ++ replicate (48 - slots (p .mode)) 0;
           };
-      good = λ p. areSeeds (p .mode) (p .seeds);
+      -- as many as there are slots; an unused one is zero
+      tested = λ p. each 4 in20 (take (slots (p .mode)) (p .seeds)) ++ each 4 (eqb 0) (drop (slots (p .mode)) (p .seeds));
       bytes = λ p. allBytes (take (slots (p .mode)) (p .seeds));
     }
     ∷ []
@@ -119,32 +132,74 @@ pub record Shape (P : Profile) : Type 0 where
   pub level : T (fits binary32 (P .level))
   pub seeds : length (P .seeds) ≡ 48
 
-abbrev pub allGood : List Field → Profile → Bool
-allGood [] p = true
-allGood (f ∷ fs) p = f .good p && allGood fs p
+-- ---- what is at fault
+
+-- a number that names no field: the place is zero
+abbrev pub only : ℕ → Answer
+only n = record { number = n; place = 0 }
+
+-- the first of two answers, unless its number is 0
+infixr 20 _or_
+abbrev pub _or_ : Answer → Answer → Answer
+a or b = pick (eqb (a .number) 0) b a
+
+-- the first number that is out of its range, among those that begin at a byte: the answer n with the byte where it begins; 0 where there is none
+abbrev pub faulty : ℕ → ℕ → List Tested → Answer
+faulty n at [] = only 0
+faulty n at (x ∷ xs) = pick (x .good) (faulty n (at + x .size) xs) (record { number = n; place = at })
+
+-- what a field finds at fault in a profile, where the field's header begins at a byte and its value three bytes after
+abbrev pub faultOf : Field → ℕ → Profile → Answer
+faultOf f at p = faulty (f .refusal) (at + 3) (f .tested p)
+
+-- tested in tag order, the places counted as if the profile had been written out
+abbrev pub faultFrom : List Field → ℕ → Profile → Answer
+faultFrom [] at p = only 0
+faultFrom (f ∷ fs) at p = faultOf f at p or faultFrom fs (at + 3 + f .due p) p
+
+unfoldable pub fault : Profile → Answer
+fault p = faultFrom fields 0 p
 
 unfoldable pub inRange : Profile → Bool
-inRange p = allGood fields p
+inRange p = eqb (fault p .number) 0
 
 -- ---- reading
 
-abbrev pub refused : ℕ → Reading
-refused n = record { number = n; profile = blank }
+abbrev pub refused : Answer → Reading
+refused a = record { number = a .number; place = a .place; profile = blank }
 
--- After the last field fewer than three bytes give 1, else 2. Per field: nothing left (5), header cut (1), tag (2), length (3), value cut (1), value (4)
-unfoldable pub walk : List Field → Profile → List ℕ → Reading
-walk [] p s = pick (eqb (length s) 0) (record { number = 0; profile = p }) (refused (pick (ltb (length s) 3) 1 2))
-walk (f ∷ fs) p s =
-    pick (eqb (length s) 0) (refused 5)
-    (pick (ltb (length s) 3) (refused 1)
-    (pick (not (eqb (row s 0) (f .tag))) (refused 2)
-    (pick (not (eqb (row s 1 * 256 + row s 2) (f .due p))) (refused 3)
-    (pick (ltb (length s) (3 + f .due p)) (refused 1)
-    (pick (not (f .good (f .with p (take (f .due p) (drop 3 s))))) (refused 4)
-    (walk fs (f .with p (take (f .due p) (drop 3 s))) (drop (3 + f .due p) s)))))))
+-- After the last field fewer than three bytes give 1, else 2. Per field, whose header begins at byte `at`: nothing left (5), header cut (1), tag (2),
+-- length (3), value cut (1), what is at fault in the value
+unfoldable pub walk : List Field → ℕ → Profile → List ℕ → Reading
+walk [] at p s = pick (eqb (length s) 0) (record { number = 0; place = 0; profile = p }) (refused (only (pick (ltb (length s) 3) 1 2)))
+walk (f ∷ fs) at p s =
+    pick (eqb (length s) 0) (refused (only 5))
+    (pick (ltb (length s) 3) (refused (only 1))
+    (pick (not (eqb (row s 0) (f .tag))) (refused (only 2))
+    (pick (not (eqb (row s 1 * 256 + row s 2) (f .due p))) (refused (only 3))
+    (pick (ltb (length s) (3 + f .due p)) (refused (only 1))
+    (let q = f .with p (take (f .due p) (drop 3 s)) in
+    pick (eqb (faultOf f at q .number) 0) (walk fs (at + 3 + f .due p) q (drop (3 + f .due p) s)) (refused (faultOf f at q)))))))
 
 abbrev pub reading : List ℕ → Reading
-reading s = walk fields blank s
+reading s = walk fields 0 blank s
+
+-- headers and lengths are right: field after field its tag, its length and so many bytes, and nothing after the last
+abbrev pub headed : List Field → Profile → List ℕ → Bool
+headed [] p s = eqb (length s) 0
+headed (f ∷ fs) p s =
+    leb (3 + f .due p) (length s)
+    && (eqb (row s 0) (f .tag)
+    && (eqb (row s 1 * 256 + row s 2) (f .due p) && headed fs (f .with p (take (f .due p) (drop 3 s))) (drop (3 + f .due p) s)))
+
+-- the value that then stands there, in its range or not
+abbrev pub spelt : List Field → Profile → List ℕ → Profile
+spelt [] p s = p
+spelt (f ∷ fs) p s = spelt fs (f .with p (take (f .due p) (drop 3 s))) (drop (3 + f .due p) s)
+
+-- the reading of a value: refused with what is at fault in it, else the value
+abbrev pub readAs : Profile → Reading
+readAs p = pick (inRange p) (record { number = 0; place = 0; profile = p }) (refused (fault p))
 
 -- ---- writing
 
@@ -161,5 +216,5 @@ largest = 245
 abbrev pub writing : Profile → Writing
 writing p =
     pick (inRange p)
-    (record { number = 0; bytes = written p ++ replicate (largest - length (written p)) 0; count = length (written p) })
-    (record { number = 4; bytes = replicate largest 0; count = 0 })
+    (record { number = 0; place = 0; bytes = written p ++ replicate (largest - length (written p)) 0; count = length (written p) })
+    (record { number = fault p .number; place = fault p .place; bytes = replicate largest 0; count = 0 })

@@ -27,6 +27,13 @@ pub struct Profile {
     pub seeds: [u32; 48],
 }
 
+// What a call answers: a number of the table, and the place. At 40 to 44, which name a field of the profile, that is the byte where the field's
+// first faulty number begins; at every other number it is zero.
+pub struct Answer {
+    pub number: u32,
+    pub place: usize,
+}
+
 // What the outer code answers.
 pub enum Outcome {
     Done,
@@ -36,22 +43,25 @@ pub enum Outcome {
     NoCodeword,
 }
 
-// What reading a profile answers: at every number but 0 the profile has all numbers zero and D +0.0.
+// What reading a profile answers: at every number but 0 the profile has all numbers zero and D +0.0. The place is an answer's.
 pub struct Reading {
     pub number: u32,
+    pub place: usize,
     pub profile: Profile,
 }
 
-// What writing a profile answers: zeros after the written bytes, and their count.
+// What writing a profile answers: zeros after the written bytes, and their count. The place is an answer's.
 pub struct Writing {
     pub number: u32,
+    pub place: usize,
     pub bytes: [u8; 245],
     pub count: usize,
 }
 
-// What receiving answers: bit p of the lost mask and reason p are packet p's.
+// What receiving answers: bit p of the lost mask and reason p are packet p's. The place is an answer's.
 pub struct Receipt {
     pub number: u32,
+    pub place: usize,
     pub lost: u16,
     pub reasons: [u8; 16],
 }
