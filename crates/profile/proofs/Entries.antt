@@ -14,10 +14,11 @@ use lib.ListN.{length, take, drop, replicate, take-append-drop, length-drop}
 use lib.Seq.{length-take-le, take-at}
 use Rattle.rules.specs.Bits.{pick}
 use Rattle.rules.specs.Outer.{isK}
-use Rattle.rules.specs.Slots.{slots}
-use Rattle.rules.specs.Profile.{number, words, allBytes, wordBytes, all, in20, areSeeds, isLevel, fields, blank}
+use Rattle.rules.specs.Slots.{isMode, slots}
+use Rattle.rules.specs.Profile.{number, words, allBytes, wordBytes, each, in20, isLevel, fields, blank}
 use Rattle.rules.specs.declared.Profile.{Profile}
 use Rattle.rules.specs.Profile.{Shape}
+use Rattle.profile.proofs.Tests.{allGood, good-apart}
 use Rattle.profile.proofs.Words.{Bytes, all-bytes, bytes-length, word-read, word-written, words-length, words-read, words-written, zeros}
 use Rattle.profile.proofs.Table.{Laws, end, _&_, Ordered, Good, filled}
 
@@ -77,15 +78,14 @@ seeds-length m l e =
 
 seeds-read : (m : ℕ) (l : List ℕ)
     → length l ≡ 48
-    → T (areSeeds m l)
+    → T (allGood (each 4 in20 (take (slots m) l) ++ each 4 (eqb 0) (drop (slots m) l)))
     → words (slots m) (allBytes (take (slots m) l)) ++ replicate (48 - slots m) 0 ≡ l
 seeds-read m l e g =
     let n = slots m in
-    let a = all in20 (take n l) in
-    let b = all (eqb 0) (drop n l) in
+    let both = good-apart (each 4 in20 (take n l)) (each 4 (eqb 0) (drop n l)) g in
     let rest : 48 - n ≡ length (drop n l) = omega (arith, length-drop n l) in
-    ap₂ _++_ (words-read in20 in20-low n (take n l) (length-take-le n l (omega (arith, slots-most m))) (and-l a b g))
-    (ap (λ (k : ℕ). replicate k 0) rest ∙ sym (zeros (drop n l) (and-r a b g)))
+    ap₂ _++_ (words-read in20 in20-low n (take n l) (length-take-le n l (omega (arith, slots-most m))) (both .0))
+    (ap (λ (k : ℕ). replicate k 0) rest ∙ sym (zeros (drop n l) (both .1)))
     ∙ take-append-drop n l
 
 seeds-written : (n : ℕ) (s : List ℕ) → length s ≡ 4 * n → Bytes s → allBytes (take n (words n s ++ replicate (48 - n) 0)) ≡ s
@@ -98,6 +98,7 @@ pub laws : Laws fields
 laws =
     record {
       tagged = omega arith;
+      named = tt;
       short = λ P. omega arith;
       measured = λ P S. omega (arith, bytes-length (P .masks), S .masks);
       each = λ P g. all-bytes (P .masks);
@@ -105,27 +106,31 @@ laws =
     }
     & record {
       tagged = omega arith;
+      named = tt;
       short = λ P. omega arith;
       measured = λ P S. refl;
       each = λ P g. all-bytes (toBits binary32 (P .level) ∷ []);
-      back = λ p s e b g. level-written s e b g;
+      back = λ p s e b g. level-written s e b (and-l (isLevel (ofBits binary32 (number s))) true g);
     }
     & record {
       tagged = omega arith;
+      named = tt;
       short = λ P. omega arith;
       measured = λ P S. refl;
-      each = λ P g. (omega (arith, ltb→lt), tt);
+      each = λ P g. (omega (arith, ltb→lt (P .mode) 2 (and-l (isMode (P .mode)) true g)), tt);
       back = λ p s e b g. byte-written s e;
     }
     & record {
       tagged = omega arith;
+      named = tt;
       short = λ P. omega arith;
       measured = λ P S. refl;
-      each = λ P g. (k-low (P .k) g, tt);
+      each = λ P g. (k-low (P .k) (and-l (isK (P .k)) true g), tt);
       back = λ p s e b g. byte-written s e;
     }
     & record {
       tagged = omega arith;
+      named = tt;
       short = λ P. omega (arith, slots-most (P .mode));
       measured = λ P S. seeds-length (P .mode) (P .seeds) (S .seeds);
       each = λ P g. all-bytes (take (slots (P .mode)) (P .seeds));

@@ -5,4 +5,5 @@ pub mod Written
 pub mod Words
 pub mod Table
 pub mod Entries
+pub mod AtFault
 pub mod RoundTrip

@@ -1,33 +1,43 @@
 -- Reading and writing along any table of fields whose entries obey `Lawful` and stand in an order by `Ordered`: the two undo one another.
 use mathlib.Core.Path.{_≡_, refl, sym, ap, _∙_, subst}
-use mathlib.Core.Bool.{Bool, true, false, not}
+use mathlib.Core.Bool.{Bool, true, false, not, _&&_}
 use mathlib.Core.List.{List, [], _∷_, _++_}
+use mathlib.Core.Logic.{_⊎_, inl, inr, ⊎-elim}
 use Prim.Native.Nat.{ℕ, suc, _+_, _*_, _/_, _%_, _<_, _≤_}
 use native.Mathlib.Nat.{div-add-mod'}
+use native.Mathlib.Decide.{ℕ-discrete}
 use native.Mathlib.Omega.{arith}
-use lib.Dec.{T, eqb, ltb}
+use lib.Dec.{T, eqb, leb, ltb, leb→le}
 use lib.Ieee.Bits.{is-true}
 use lib.Ieee.Fits.{and-i, and-l, and-r}
 use lib.ListN.{length, take, drop, length-append, take-append-drop}
 use lib.Seq.{length-take-le, take-at, drop-at}
 use borrow.Author.Tests.{eq-eqb, eqb-true, ne-eqb, le-ltb, ltb-false, not-false}
 use Rattle.rules.specs.Bits.{pick, row}
-use Rattle.rules.specs.Profile.{Field, allGood, blank, fieldBytes, refused, walk}
+use Rattle.rules.specs.Answers.{namesField}
+use Rattle.rules.specs.Profile.{Field, faultFrom, faultOf, fieldBytes, headed, only, refused, spelt, walk}
+use Rattle.rules.specs.declared.Answer.{Answer}
 use Rattle.rules.specs.declared.Profile.{Profile}
 use Rattle.rules.specs.declared.Reading.{Reading}
 use Rattle.rules.specs.Profile.{Shape}
+use Rattle.profile.proofs.Tests.{allGood, faulty-test}
 use Rattle.profile.proofs.Words.{Bytes, bytes-apart, bytes-both}
 
 -- ---- the laws
 
+-- every number of a field is in its range
+abbrev pub good : Field → Profile → Bool
+good f p = allGood (f .tested p)
+
 -- of one field
 pub record Lawful (f : Field) : Type 0 where
   pub tagged : f .tag < 256
+  pub named : T (namesField (f .refusal))
   pub short : (P : Profile) → f .due P < 65536
   pub measured : (P : Profile) → Shape P → length (f .bytes P) ≡ f .due P
-  pub each : (P : Profile) → T (f .good P) → Bytes (f .bytes P)
+  pub each : (P : Profile) → T (good f P) → Bytes (f .bytes P)
   -- a value in its range is written as the bytes that it was read from
-  pub back : (p : Profile) (s : List ℕ) → length s ≡ f .due p → Bytes s → T (f .good (f .with p s)) → f .bytes (f .with p s) ≡ s
+  pub back : (p : Profile) (s : List ℕ) → length s ≡ f .due p → Bytes s → T (good f (f .with p s)) → f .bytes (f .with p s) ≡ s
 
 -- of each field of a table. `l & L` is `more l L`, but a function's arguments are checked once the table is known
 infixr 20 _&_
@@ -46,20 +56,59 @@ Keeps h (f ∷ fs) = ((p : Profile) (s : List ℕ) → h (f .with p s) ≡ h p) 
 -- the length due is known by what was read before the field, and the range and the bytes by what was read up to it
 abbrev pub Ordered : List Field → Type 0
 Ordered [] = Unit {0}
-Ordered (f ∷ fs) = Keeps (f .due) (f ∷ fs) × Keeps (f .good) fs × Keeps (f .bytes) fs × Ordered fs
+Ordered (f ∷ fs) = Keeps (f .due) (f ∷ fs) × Keeps (f .tested) fs × Keeps (f .bytes) fs × Ordered fs
 
 -- every field of P is in its range
 abbrev pub Good : List Field → Profile → Type 0
 Good [] P = Unit {0}
-Good (f ∷ fs) P = T (f .good P) × Good fs P
+Good (f ∷ fs) P = T (good f P) × Good fs P
 
-pub good-all : (fs : List Field) (P : Profile) → T (allGood fs P) → Good fs P
-good-all [] P t = tt
-good-all (f ∷ fs) P t = (and-l (f .good P) (allGood fs P) t, good-all fs P (and-r (f .good P) (allGood fs P) t))
+-- ---- what is at fault
 
-pub all-good : (fs : List Field) (P : Profile) → Good fs P → T (allGood fs P)
-all-good [] P g = tt
-all-good (f ∷ fs) P g = and-i (f .good P) (allGood fs P) (g .0) (all-good fs P (g .1))
+-- a field finds nothing at fault in numbers that are in their ranges
+pub fault-good : (f : Field) (at : ℕ) (p : Profile) → good f p ≡ true → faultOf f at p ≡ only 0
+fault-good f at p g =
+    ⊎-elim (λ w. w .1) (λ w. absurd (subst T (sym g ∙ w .0) tt)) (faulty-test (f .refusal) (at + 3) (f .tested p))
+
+-- and in others something, by its own number
+pub fault-bad : (f : Field) (at : ℕ) (p : Profile) → (good f p ≡ true) ⊎ (faultOf f at p .number ≡ f .refusal)
+fault-bad f at p = ⊎-elim (λ w. inl (w .0)) (λ w. inr (w .1)) (faulty-test (f .refusal) (at + 3) (f .tested p))
+
+pub no-fault : (f : Field) → T (namesField (f .refusal)) → (at : ℕ) (p : Profile) → faultOf f at p .number ≡ 0 → good f p ≡ true
+no-fault f named at p z =
+    ⊎-elim (λ g. g) (λ n. absurd (subst (λ (k : ℕ). T (namesField k)) (sym n ∙ z) named)) (fault-bad f at p)
+
+-- the first of two answers, by its number
+pub first-passed : (a b : Answer) → a .number ≡ 0 → pick (eqb (a .number) 0) b a ≡ b
+first-passed a b z = rw (eq-eqb (a .number) 0 z)
+
+pub first-stays : (a b : Answer) → (a .number ≡ 0 → ⊥) → pick (eqb (a .number) 0) b a ≡ a
+first-stays a b ne = rw (ne-eqb (a .number) 0 ne)
+
+-- nothing is at fault in a profile exactly where every field is in its range; what else is found names a field
+pub good-from : (fs : List Field) (at : ℕ) (P : Profile) → Good fs P → faultFrom fs at P ≡ only 0
+good-from [] at P g = refl
+good-from (f ∷ fs) at P g =
+    first-passed (faultOf f at P) (faultFrom fs (at + 3 + f .due P) P)
+    (ap (λ (a : Answer). a .number) (fault-good f at P (is-true (good f P) (g .0))))
+    ∙ good-from fs (at + 3 + f .due P) P (g .1)
+
+pub from-named : (fs : List Field) (at : ℕ) (P : Profile) → Laws fs
+    → Good fs P ⊎ T (namesField (faultFrom fs at P .number))
+from-named [] at P end = inl tt
+from-named (f ∷ fs) at P (more l L) =
+    ⊎-elim
+    (λ g.
+    let e = first-passed (faultOf f at P) rest (ap (λ (a : Answer). a .number) (fault-good f at P g)) in
+    ⊎-elim (λ h. inl (subst T (sym g) tt, h)) (λ t. inr (subst (λ (a : Answer). T (namesField (a .number))) (sym e) t)) (from-named fs _ P L))
+    (λ n.
+    let t : T (namesField (faultOf f at P .number)) = subst (λ (k : ℕ). T (namesField k)) (sym n) (l .named) in
+    let e = first-stays (faultOf f at P) rest (λ z. subst (λ (k : ℕ). T (namesField k)) z t) in
+    inr (subst (λ (a : Answer). T (namesField (a .number))) (sym e) t))
+    (fault-bad f at P)
+  where
+    rest : Answer
+    rest = faultFrom fs (at + 3 + f .due P) P
 
 -- p with the fields that P has
 abbrev pub filled : List Field → Profile → Profile → Profile
@@ -73,7 +122,7 @@ data Read : List Field → Profile → List ℕ → Profile → Type 0 where
   done : {p : Profile} → Read [] p [] p
   next : {f : Field} {fs : List Field} {p P : Profile} (h l : ℕ) (v s : List ℕ) → h * 256 + l ≡ f .due p
       → length v ≡ f .due p
-      → f .good (f .with p v) ≡ true
+      → good f (f .with p v) ≡ true
       → Read fs (f .with p v) s P
       → Read (f ∷ fs) p (f .tag ∷ h ∷ l ∷ v ++ s) P
 
@@ -84,45 +133,57 @@ kept h (next {p = p} a b v s e m g r) k = kept h r (k .1) ∙ k .0 p v
 skip : (b : Bool) (x : Reading) {y z : Reading} → b ≡ false → y ≡ z → pick b x y ≡ z
 skip b x {y} e h = ap (λ (t : Bool). pick t x y) e ∙ h
 
+go-on : (a : Answer) {y z : Reading} → a .number ≡ 0 → y ≡ z → pick (eqb (a .number) 0) y (refused a) ≡ z
+go-on a e h = rw (eq-eqb (a .number) 0 e) h
+
 three : (n : ℕ) → 3 + n ≡ suc (suc (suc n))
 three n = omega arith
 
-walk-read : {fs : List Field} {p P : Profile} {s : List ℕ} → Read fs p s P → walk fs p s ≡ record { number = 0; profile = P }
+walk-read : {fs : List Field} {p P : Profile} {s : List ℕ} (at : ℕ) → Read fs p s P
+    → walk fs at p s ≡ record { number = 0; place = 0; profile = P }
 unfolding walk
-walk-read done = refl
-walk-read (next {f} {fs} {p} {P} h l v s e m g r) =
+walk-read at done = refl
+walk-read at (next {f} {fs} {p} {P} h l v s e m g r) =
     let n = 3 + length (v ++ s) in
     rw (three (f .due p), take-at v s (f .due p) m, drop-at v s (f .due p) m, ← three (length (v ++ s)))
-    (skip _ (refused 5) (ne-eqb n 0 (omega arith))
-    (skip _ (refused 1) (le-ltb n 3 (omega arith))
-    (skip _ (refused 2) (ap not (eq-eqb (f .tag) (f .tag) refl))
-    (skip _ (refused 3) (ap not (eq-eqb _ _ e))
-    (skip _ (refused 1) (le-ltb n (suc (suc (suc (f .due p)))) (omega (arith, length-append v s)))
-    (skip _ (refused 4) (ap not g)
-    (walk-read r)))))))
+    (skip _ (refused (only 5)) (ne-eqb n 0 (omega arith))
+    (skip _ (refused (only 1)) (le-ltb n 3 (omega arith))
+    (skip _ (refused (only 2)) (ap not (eq-eqb (f .tag) (f .tag) refl))
+    (skip _ (refused (only 3)) (ap not (eq-eqb _ _ e))
+    (skip _ (refused (only 1)) (le-ltb n (suc (suc (suc (f .due p)))) (omega (arith, length-append v s)))
+    (go-on (faultOf f at (f .with p v)) (ap (λ (a : Answer). a .number) (fault-good f at (f .with p v) g))
+    (walk-read (at + 3 + f .due p) r)))))))
 
 zero-number : {q r : Reading} → q ≡ r → r .number ≡ 0 → q .number ≡ 0
 zero-number e z = ap (λ (q : Reading). q .number) e ∙ z
 
-passed : (b : Bool) (n : ℕ) (x r : Reading) → pick b (refused (suc n)) x ≡ r → r .number ≡ 0 → (b ≡ false) × (x ≡ r)
+passed : (b : Bool) (n : ℕ) (x r : Reading) → pick b (refused (only (suc n))) x ≡ r → r .number ≡ 0 → (b ≡ false) × (x ≡ r)
 passed true n x r e z = absurd (omega (arith, zero-number e z))
 passed false n x r e z = (refl, e)
 
-ends : (b c : Bool) (p : Profile) → pick b (record { number = 0; profile = p }) (refused (pick c 1 2)) .number ≡ 0 → b ≡ true
+went-on : (a : Answer) (x r : Reading) → pick (eqb (a .number) 0) x (refused a) ≡ r → r .number ≡ 0 → (a .number ≡ 0) × (x ≡ r)
+went-on a x r e z = go (ℕ-discrete (a .number) 0)
+  where
+    go : Dec (a .number ≡ 0) → (a .number ≡ 0) × (x ≡ r)
+    go (yes y) = (y, rw (eq-eqb (a .number) 0 y) at e)
+    go (no ne) = absurd (ne (zero-number (rw (ne-eqb (a .number) 0 ne) at e) z))
+
+ends : (b c : Bool) (p : Profile) → pick b (record { number = 0; place = 0; profile = p }) (refused (only (pick c 1 2))) .number ≡ 0 → b ≡ true
 ends true c p z = refl
 ends false true p z = absurd (omega arith)
 ends false false p z = absurd (omega arith)
 
-read-walk : (fs : List Field) (p : Profile) (s : List ℕ) (r : Reading) → walk fs p s ≡ r → r .number ≡ 0 → Read fs p s (r .profile)
+read-walk : (fs : List Field) (at : ℕ) (p : Profile) (s : List ℕ) (r : Reading) → Laws fs → walk fs at p s ≡ r → r .number ≡ 0
+    → Read fs p s (r .profile)
 unfolding walk
-read-walk [] p [] r e z = subst (λ (q : Reading). Read [] p [] (q .profile)) e done
-read-walk [] p (x ∷ s) r e z =
+read-walk [] at p [] r end e z = subst (λ (q : Reading). Read [] p [] (q .profile)) e done
+read-walk [] at p (x ∷ s) r end e z =
     let n = suc (length s) in
     absurd (omega (arith, eqb-true n 0 (ends (eqb n 0) (ltb n 3) p (zero-number e z))))
-read-walk (f ∷ fs) p [] r e z = absurd (omega (arith, zero-number e z))
-read-walk (f ∷ fs) p (a ∷ []) r e z = absurd (omega (arith, zero-number e z))
-read-walk (f ∷ fs) p (a ∷ b ∷ []) r e z = absurd (omega (arith, zero-number e z))
-read-walk (f ∷ fs) p (a ∷ b ∷ c ∷ s) r e z =
+read-walk (f ∷ fs) at p [] r (more law L) e z = absurd (omega (arith, zero-number e z))
+read-walk (f ∷ fs) at p (a ∷ []) r (more law L) e z = absurd (omega (arith, zero-number e z))
+read-walk (f ∷ fs) at p (a ∷ b ∷ []) r (more law L) e z = absurd (omega (arith, zero-number e z))
+read-walk (f ∷ fs) at p (a ∷ b ∷ c ∷ s) r (more law L) e z =
     let d = f .due p in
     let n = suc (suc (suc (length s))) in
     let t₁ = passed (eqb n 0) 4 _ r e z in
@@ -130,14 +191,14 @@ read-walk (f ∷ fs) p (a ∷ b ∷ c ∷ s) r e z =
     let t₃ = passed _ 1 _ r (t₂ .1) z in
     let t₄ = passed _ 2 _ r (t₃ .1) z in
     let t₅ = passed _ 0 _ r (t₄ .1) z in
-    let t₆ = passed _ 3 _ r (t₅ .1) z in
+    let t₆ = went-on (faultOf f at _) _ r (t₅ .1) z in
     let long : d ≤ length s = omega (arith, ltb-false n (3 + d) (t₅ .0)) in
-    let rest : walk fs (f .with p (take d s)) (drop d s) ≡ r =
-    ap (λ (k : ℕ). walk fs (f .with p (take d s)) (drop k (a ∷ b ∷ c ∷ s))) (sym (three d)) ∙ t₆ .1 in
+    let rest : walk fs (at + 3 + d) (f .with p (take d s)) (drop d s) ≡ r =
+    ap (λ (k : ℕ). walk fs (at + 3 + d) (f .with p (take d s)) (drop k (a ∷ b ∷ c ∷ s))) (sym (three d)) ∙ t₆ .1 in
     subst (λ (l : List ℕ). Read (f ∷ fs) p l (r .profile))
     (λ i. sym (eqb-true a (f .tag) (not-false _ (t₃ .0))) i ∷ b ∷ c ∷ take-append-drop d s i)
-    (next b c (take d s) (drop d s) (eqb-true _ _ (not-false _ (t₄ .0))) (length-take-le d s long) (not-false _ (t₆ .0))
-    (read-walk fs (f .with p (take d s)) (drop d s) r rest z))
+    (next b c (take d s) (drop d s) (eqb-true _ _ (not-false _ (t₄ .0))) (length-take-le d s long)
+    (no-fault f (law .named) at _ (t₆ .0)) (read-walk fs (at + 3 + d) (f .with p (take d s)) (drop d s) r L rest z))
 
 -- ---- what is written is read
 
@@ -150,12 +211,12 @@ read-filled (f ∷ fs) p P (more law L) O S g e =
     next (f .due P / 256) (f .due P % 256) (f .bytes P) (fieldBytes fs P)
     (div-add-mod' (f .due P) 256 ∙ d)
     (law .measured P S ∙ d)
-    (sym (kept (f .good) r (O .1)) ∙ is-true (f .good P) (g .0))
+    (ap allGood (sym (kept (f .tested) r (O .1))) ∙ is-true (good f P) (g .0))
     r
 
 pub table-read : (fs : List Field) (p P : Profile) → Laws fs → Ordered fs → Shape P → Good fs P → filled fs p P ≡ P
-    → walk fs p (fieldBytes fs P) ≡ record { number = 0; profile = P }
-table-read fs p P L O S g e = walk-read (read-filled fs p P L O S g e)
+    → walk fs 0 p (fieldBytes fs P) ≡ record { number = 0; place = 0; profile = P }
+table-read fs p P L O S g e = walk-read 0 (read-filled fs p P L O S g e)
 
 -- ---- what reads well is what is written
 
@@ -168,40 +229,51 @@ written-of (next {f} {fs} {p} {P} h l v s e m g r) (more law L) O b =
     let d : f .due P ≡ h * 256 + l = kept (f .due) r (O .0 .1) ∙ O .0 .0 p v ∙ sym e in
     let e₁ : f .due P / 256 ≡ h = omega (arith, b .1 .1 .0) in
     let e₂ : f .due P % 256 ≡ l = omega (arith, b .1 .1 .0) in
-    let t : T (f .good (f .with p v)) = subst T (sym g) tt in
+    let t : T (good f (f .with p v)) = subst T (sym g) tt in
     let e₃ : f .bytes P ≡ v = kept (f .bytes) r (O .2) ∙ law .back p v m (b' .0) t in
-    ((subst T (sym (kept (f .good) r (O .1))) t, w .0), λ i. f .tag ∷ e₁ i ∷ e₂ i ∷ e₃ i ++ w .1 i)
+    ((subst T (ap allGood (sym (kept (f .tested) r (O .1)))) t, w .0), λ i. f .tag ∷ e₁ i ∷ e₂ i ∷ e₃ i ++ w .1 i)
 
-pub table-written : (fs : List Field) (p : Profile) (s : List ℕ) → Laws fs → Ordered fs → Bytes s → walk fs p s .number ≡ 0
-    → Good fs (walk fs p s .profile) × (fieldBytes fs (walk fs p s .profile) ≡ s)
-table-written fs p s L O b z = written-of (read-walk fs p s (walk fs p s) refl z) L O b
+pub table-written : (fs : List Field) (p : Profile) (s : List ℕ) → Laws fs → Ordered fs → Bytes s → walk fs 0 p s .number ≡ 0
+    → Good fs (walk fs 0 p s .profile) × (fieldBytes fs (walk fs 0 p s .profile) ≡ s)
+table-written fs p s L O b z = written-of (read-walk fs 0 p s (walk fs 0 p s) L refl z) L O b
 
 -- ---- numbers, lengths, bytes
 
--- what holds of every profile that is read and of the five refusals holds of what is answered
-module _ (Q : Reading → Type 0) (done : (p : Profile) → Q (record { number = 0; profile = p }))
-    (q₁ : Q (refused 1)) (q₂ : Q (refused 2)) (q₃ : Q (refused 3)) (q₄ : Q (refused 4)) (q₅ : Q (refused 5)) where
-  or-refused : (b : Bool) (n : ℕ) (r : Reading) → Q (refused n) → Q r → Q (pick b (refused n) r)
+-- what holds of every profile that is read, of the refusals by a header and of every one that names a field holds of what is answered
+module _ (Q : Reading → Type 0) (done : (p : Profile) → Q (record { number = 0; place = 0; profile = p }))
+    (q₁ : Q (refused (only 1))) (q₂ : Q (refused (only 2))) (q₃ : Q (refused (only 3))) (q₅ : Q (refused (only 5)))
+    (named : (a : Answer) → T (namesField (a .number)) → Q (refused a)) where
+  or-refused : (b : Bool) (n : ℕ) (r : Reading) → Q (refused (only n)) → Q r → Q (pick b (refused (only n)) r)
   or-refused true n r t q = t
   or-refused false n r t q = q
 
-  ended : (b c : Bool) (p : Profile) → Q (pick b (record { number = 0; profile = p }) (refused (pick c 1 2)))
+  or-named : (f : Field) → T (namesField (f .refusal)) → (at : ℕ) (p : Profile) (r : Reading) → Q r
+      → Q (let a = faultOf f at p in pick (eqb (a .number) 0) r (refused a))
+  or-named f t at p r q =
+      let a = faultOf f at p in
+      ⊎-elim (λ g. subst Q (sym (go-on a (ap (λ (b : Answer). b .number) (fault-good f at p g)) refl)) q)
+      (λ n.
+      let names : T (namesField (a .number)) = subst (λ (k : ℕ). T (namesField k)) (sym n) t in
+      rw (ne-eqb (a .number) 0 (λ z. subst (λ (k : ℕ). T (namesField k)) z names)) (named a names))
+      (fault-bad f at p)
+
+  ended : (b c : Bool) (p : Profile) → Q (pick b (record { number = 0; place = 0; profile = p }) (refused (only (pick c 1 2))))
   ended true c p = done p
   ended false true p = q₁
   ended false false p = q₂
 
-  pub table-answer : (fs : List Field) (p : Profile) (s : List ℕ) → Q (walk fs p s)
+  pub table-answer : (fs : List Field) (at : ℕ) (p : Profile) (s : List ℕ) → Laws fs → Q (walk fs at p s)
   unfolding walk
-  table-answer [] p s = ended (eqb (length s) 0) (ltb (length s) 3) p
-  table-answer (f ∷ fs) p s =
+  table-answer [] at p s end = ended (eqb (length s) 0) (ltb (length s) 3) p
+  table-answer (f ∷ fs) at p s (more l L) =
       let q = f .with p (take (f .due p) (drop 3 s)) in
       or-refused (eqb (length s) 0) 5 _ q₅
       (or-refused (ltb (length s) 3) 1 _ q₁
       (or-refused (not (eqb (row s 0) (f .tag))) 2 _ q₂
       (or-refused (not (eqb (row s 1 * 256 + row s 2) (f .due p))) 3 _ q₃
       (or-refused (ltb (length s) (3 + f .due p)) 1 _ q₁
-      (or-refused (not (f .good q)) 4 _ q₄
-      (table-answer fs q (drop (3 + f .due p) s)))))))
+      (or-named f (l .named) at q _
+      (table-answer fs (at + 3 + f .due p) q (drop (3 + f .due p) s) L))))))
 
 -- how many bytes are due
 abbrev pub size : List Field → Profile → ℕ
@@ -218,3 +290,50 @@ table-bytes [] P end g = tt
 table-bytes (f ∷ fs) P (more l L) g =
     bytes-both (f .tag ∷ f .due P / 256 ∷ f .due P % 256 ∷ []) (f .bytes P ++ fieldBytes fs P) (omega (arith, l .tagged, l .short P))
     (bytes-both (f .bytes P) (fieldBytes fs P) (l .each P (g .0)) (table-bytes fs P L (g .1)))
+
+-- ---- bytes whose headers and lengths are right
+
+-- what h says of a profile stays while the other fields are read
+kept-spelt : {A : Type 0} (h : Profile → A) (fs : List Field) (p : Profile) (s : List ℕ) → Keeps h fs → h (spelt fs p s) ≡ h p
+kept-spelt h [] p s k = refl
+kept-spelt h (f ∷ fs) p s k =
+    kept-spelt h fs (f .with p (take (f .due p) (drop 3 s))) (drop (3 + f .due p) s) (k .1) ∙ k .0 p (take (f .due p) (drop 3 s))
+
+-- a reading that is refused with an answer, unless its number is 0
+abbrev unless : Answer → Reading → Reading
+unless a r = pick (eqb (a .number) 0) r (refused a)
+
+unless-or : (a b : Answer) (r : Reading) → unless a (unless b r) ≡ unless (pick (eqb (a .number) 0) b a) r
+unless-or a b r = go (eqb (a .number) 0) refl
+  where
+    go : (z : Bool) → eqb (a .number) 0 ≡ z
+        → pick z (unless b r) (refused a) ≡ unless (pick z b a) r
+    go true e = refl
+    go false e = rw e
+
+-- reading answers what the value that stands there is refused with
+pub table-refused : (fs : List Field) (at : ℕ) (p : Profile) (s : List ℕ) → Ordered fs → T (headed fs p s)
+    → walk fs at p s ≡ unless (faultFrom fs at (spelt fs p s)) (record { number = 0; place = 0; profile = spelt fs p s })
+unfolding walk
+table-refused [] at p s O t = rw (is-true (eqb (length s) 0) t)
+table-refused (f ∷ fs) at p s O t =
+    let d = f .due p in
+    let q = f .with p (take d (drop 3 s)) in
+    let P = spelt fs q (drop (3 + d) s) in
+    let rest = headed fs q (drop (3 + d) s) in
+    let tag = eqb (row s 0) (f .tag) in
+    let long = eqb (row s 1 * 256 + row s 2) d in
+    let t₁ = and-l (leb (3 + d) (length s)) (tag && (long && rest)) t in
+    let t₂ = and-r (leb (3 + d) (length s)) (tag && (long && rest)) t in
+    let t₃ = and-r tag (long && rest) t₂ in
+    let room : 3 + d ≤ length s = leb→le (3 + d) (length s) t₁ in
+    let due : f .due P ≡ d = kept-spelt (f .due) fs q (drop (3 + d) s) (O .0 .1) ∙ O .0 .0 p (take d (drop 3 s)) in
+    let tested : f .tested P ≡ f .tested q = kept-spelt (f .tested) fs q (drop (3 + d) s) (O .1) in
+    skip _ (refused (only 5)) (ne-eqb (length s) 0 (omega arith))
+    (skip _ (refused (only 1)) (le-ltb (length s) 3 (omega arith))
+    (skip _ (refused (only 2)) (ap not (is-true tag (and-l tag (long && rest) t₂)))
+    (skip _ (refused (only 3)) (ap not (is-true long (and-l long rest t₃)))
+    (skip _ (refused (only 1)) (le-ltb (length s) (3 + d) room)
+    (ap (unless (faultOf f at q)) (table-refused fs (at + 3 + d) q (drop (3 + d) s) (O .3) (and-r long rest t₃))
+    ∙ unless-or (faultOf f at q) (faultFrom fs (at + 3 + d) P) (record { number = 0; place = 0; profile = P })
+    ∙ rw (due, tested))))))

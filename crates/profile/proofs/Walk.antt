@@ -12,7 +12,8 @@ use lib.ListN.{length, take, drop, length-take, length-drop, drop-of-length-le}
 use lib.Seq.{drop-cons, drop-drop, getD-drop}
 use Rattle.laws.specs.Every.{every-at}
 use Rattle.rules.specs.Bits.{pick, row}
-use Rattle.rules.specs.Profile.{Field, fields, allGood, inRange, walk, reading, refused}
+use Rattle.rules.specs.Profile.{Field, fields, fault, faultFrom, faultOf, only, walk, reading, refused}
+use Rattle.rules.specs.declared.Answer.{Answer}
 use Rattle.rules.specs.declared.Profile.{Profile}
 use Rattle.rules.specs.declared.Reading.{Reading}
 use Rattle.profile.specs.Fields.{none, many, field, heading, ending}
@@ -98,34 +99,37 @@ unfolding field
 tag-at i h = eqb→eq (field i .tag) (i + 1) (every-at many (λ k. eqb (field k .tag) (k + 1)) tt i h)
 
 -- what a field's header and value decide; q is the profile with the value
-pub walk-step : (f : Field) (fs : List Field) (p q : Profile) (s : List ℕ) → q ≡ f .with p (take (f .due p) (drop 3 s))
+pub walk-step : (f : Field) (fs : List Field) (at : ℕ) (p q : Profile) (s : List ℕ) → q ≡ f .with p (take (f .due p) (drop 3 s))
     → let h = heading (f .tag) (f .due p) s in
-    walk (f ∷ fs) p s ≡ pick (eqb h 0) (pick (f .good q) (walk fs q (drop (3 + f .due p) s)) (refused 4)) (refused h)
+    let a = faultOf f at q in
+    walk (f ∷ fs) at p s
+    ≡ pick (eqb h 0) (pick (eqb (a .number) 0) (walk fs (at + 3 + f .due p) q (drop (3 + f .due p) s)) (refused a)) (refused (only h))
 unfolding walk
-walk-step f fs p q s w =
+walk-step f fs at p q s w =
     rw (← w)
     (go (eqb (length s) 0) (ltb (length s) 3) (not (eqb (row s 0) (f .tag))) (not (eqb (row s 1 * 256 + row s 2) (f .due p)))
-    (ltb (length s) (3 + f .due p)) (f .good q) (walk fs q (drop (3 + f .due p) s)))
+    (ltb (length s) (3 + f .due p)) _)
   where
-    go : (none cut tag long short good : Bool) (next : Reading)
-        → pick none (refused 5)
-        (pick cut (refused 1) (pick tag (refused 2) (pick long (refused 3) (pick short (refused 1) (pick (not good) (refused 4) next)))))
-        ≡ pick (eqb (said none cut tag long short) 0) (pick good next (refused 4)) (refused (said none cut tag long short))
-    go true cut tag long short good next = refl
-    go false true tag long short good next = refl
-    go false false true long short good next = refl
-    go false false false true short good next = refl
-    go false false false false true good next = refl
-    go false false false false false true next = refl
-    go false false false false false false next = refl
+    go : (none cut tag long short : Bool) (next : Reading)
+        → pick none (refused (only 5))
+        (pick cut (refused (only 1))
+        (pick tag (refused (only 2)) (pick long (refused (only 3)) (pick short (refused (only 1)) next))))
+        ≡ pick (eqb (said none cut tag long short) 0) next (refused (only (said none cut tag long short)))
+    go true cut tag long short next = refl
+    go false true tag long short next = refl
+    go false false true long short next = refl
+    go false false false true short next = refl
+    go false false false false true next = refl
+    go false false false false false next = refl
 
 -- what stands after the last field
-pub walk-end : (p : Profile) (s : List ℕ) → walk [] p s ≡ pick (eqb (ending s) 0) (record { number = 0; profile = p }) (refused (ending s))
+pub walk-end : (at : ℕ) (p : Profile) (s : List ℕ)
+    → walk [] at p s ≡ pick (eqb (ending s) 0) (record { number = 0; place = 0; profile = p }) (refused (only (ending s)))
 unfolding walk
-walk-end p s = go (eqb (length s) 0) (ltb (length s) 3)
+walk-end at p s = go (eqb (length s) 0) (ltb (length s) 3)
   where
-    go : (none cut : Bool) → pick none (record { number = 0; profile = p }) (refused (pick cut 1 2))
-        ≡ pick (eqb (pick none 0 (pick cut 1 2)) 0) (record { number = 0; profile = p }) (refused (pick none 0 (pick cut 1 2)))
+    go : (none cut : Bool) → pick none (record { number = 0; place = 0; profile = p }) (refused (only (pick cut 1 2)))
+        ≡ pick (eqb (pick none 0 (pick cut 1 2)) 0) (record { number = 0; place = 0; profile = p }) (refused (only (pick none 0 (pick cut 1 2))))
     go true cut = refl
     go false true = refl
     go false false = refl
@@ -144,13 +148,14 @@ module _ {s : List ℕ} {p : Profile} {at i due n : ℕ} (h : Judged s p at i du
 
   judged : (q : Profile) → q ≡ field i .with p value
       → taken i p s at
-      ≡ pick (eqb n 0) (pick (field i .good q) (record { number = 0; at = at + 3 + due; profile = q }) (refusedAt 4 at p)) (refusedAt n at p)
+      ≡ (let a = faultOf (field i) at q in
+      pick (eqb n 0) (pick (eqb (a .number) 0) (record { answer = a; at = at + 3 + due; profile = q }) (refusedAt a at p)) (refusedAt (only n) at p))
   unfolding taken
   judged q w =
       let l : at + 3 + due - (at + 3) ≡ due = omega arith in
       rw (w, l, h .says, h .length-due)
 
-  pub taken-not : (n ≡ 0 → ⊥) → refusedAt n at p ≡ taken i p s at
+  pub taken-not : (n ≡ 0 → ⊥) → refusedAt (only n) at p ≡ taken i p s at
   taken-not ne = sym (judged (field i .with p value) refl ∙ rw (ne-eqb n 0 ne))
 
   module _ (z : n ≡ 0) where
@@ -160,81 +165,89 @@ module _ {s : List ℕ} {p : Profile} {at i due n : ℕ} (h : Judged s p at i du
     pub value-due : length value ≡ field i .due p
     value-due = simp (length-take, length-drop) (omega (arith, value-room))
 
-    module _ {q : Profile} (w : q ≡ field i .with p value) where
-      pub taken-bad : field i .good q ≡ false → refusedAt 4 at p ≡ taken i p s at
-      taken-bad g = sym (judged q w ∙ rw (eq-eqb n 0 z, g))
+    module _ {q : Profile} (w : q ≡ field i .with p value) {a : Answer} (f : a ≡ faultOf (field i) at q) where
+      valued : taken i p s at ≡ pick (eqb (a .number) 0) (record { answer = a; at = at + 3 + due; profile = q }) (refusedAt a at p)
+      valued = judged q w ∙ rw (eq-eqb n 0 z, f)
 
-      pub taken-good : field i .good q ≡ true → record { number = 0; at = at + 3 + due; profile = q } ≡ taken i p s at
-      taken-good g = sym (judged q w ∙ rw (eq-eqb n 0 z, g))
+      pub taken-bad : (a .number ≡ 0 → ⊥) → refusedAt a at p ≡ taken i p s at
+      taken-bad ne = sym (valued ∙ rw (ne-eqb (a .number) 0 ne))
+
+      pub taken-good : a .number ≡ 0 → record { answer = a; at = at + 3 + due; profile = q } ≡ taken i p s at
+      taken-good e = sym (valued ∙ rw (eq-eqb (a .number) 0 e))
 
 -- ---- reading, turn by turn: from field i on, the walk over what is left answers
 
 pub record Walking (s : List ℕ) (p : Profile) (at i : ℕ) : Type 0 where
   pub within : i ≤ many
-  pub rest : reading s ≡ walk (drop i fields) p (drop at s)
+  pub rest : reading s ≡ walk (drop i fields) at p (drop at s)
 
 module _ {s : List ℕ} {p : Profile} {at i : ℕ} (h : Walking s p at i) (more : i < many) where
   turn : let t = taken i p s at in
-      reading s ≡ pick (eqb (t .number) 0) (walk (drop (i + 1) fields) (t .profile) (drop (t .at) s)) (refused (t .number))
+      reading s ≡ pick (eqb (t .answer .number) 0) (walk (drop (i + 1) fields) (t .at) (t .profile) (drop (t .at) s)) (refused (t .answer))
   unfolding taken
   turn =
       let f = field i in
       let fs = drop (i + 1) fields in
       let n = heading (i + 1) (f .due p) (drop at s) in
       let q = f .with p (take (f .due p) (drop (at + 3) s)) in
-      h .rest ∙ ap (λ (l : List Field). walk l p (drop at s)) (fields-at i more)
-      ∙ walk-step f fs p q (drop at s) (rw (drop-drop 3 at s))
-      ∙ rw (tag-at i more, drop-drop (3 + f .due p) at s, ← add-assoc at 3 (f .due p)) (go n (eqb n 0) (f .good q) refl fs q (at + 3 + f .due p))
+      let a = faultOf f at q in
+      h .rest ∙ ap (λ (l : List Field). walk l at p (drop at s)) (fields-at i more)
+      ∙ walk-step f fs at p q (drop at s) (rw (drop-drop 3 at s))
+      ∙ rw (tag-at i more, drop-drop (3 + f .due p) at s, ← add-assoc at 3 (f .due p))
+      (go n (eqb n 0) a (eqb (a .number) 0) refl refl fs q (at + 3 + f .due p))
     where
-      go : (n : ℕ) (b g : Bool) → eqb n 0 ≡ b → (fs : List Field) (q : Profile) (end : ℕ)
-          → let t = pick b (pick g (record { number = 0; at = end; profile = q }) (refusedAt 4 at p)) (refusedAt n at p) in
-          pick b (pick g (walk fs q (drop end s)) (refused 4)) (refused n)
-          ≡ pick (eqb (t .number) 0) (walk fs (t .profile) (drop (t .at) s)) (refused (t .number))
-      go n true true e fs q end = refl
-      go n true false e fs q end = refl
-      go n false g e fs q end = rw e
+      go : (n : ℕ) (b : Bool) (a : Answer) (g : Bool) → eqb n 0 ≡ b → eqb (a .number) 0 ≡ g → (fs : List Field) (q : Profile) (end : ℕ)
+          → let t = pick b (pick g (record { answer = a; at = end; profile = q }) (refusedAt a at p)) (refusedAt (only n) at p) in
+          pick b (pick g (walk fs end q (drop end s)) (refused a)) (refused (only n))
+          ≡ pick (eqb (t .answer .number) 0) (walk fs (t .at) (t .profile) (drop (t .at) s)) (refused (t .answer))
+      go n true a true e f fs q end = rw f
+      go n true a false e f fs q end = rw f
+      go n false a g e f fs q end = rw e
 
   module _ {t : Step} (e : t ≡ taken i p s at) where
-    turned : reading s ≡ pick (eqb (t .number) 0) (walk (drop (i + 1) fields) (t .profile) (drop (t .at) s)) (refused (t .number))
+    turned : reading s
+        ≡ pick (eqb (t .answer .number) 0) (walk (drop (i + 1) fields) (t .at) (t .profile) (drop (t .at) s)) (refused (t .answer))
     turned = rw e turn
 
-    pub walk-refused : (t .number ≡ 0 → ⊥) → refused (t .number) ≡ reading s
-    walk-refused ne = sym (turned ∙ rw (ne-eqb (t .number) 0 ne))
+    pub walk-refused : (t .answer .number ≡ 0 → ⊥) → refused (t .answer) ≡ reading s
+    walk-refused ne = sym (turned ∙ rw (ne-eqb (t .answer .number) 0 ne))
 
-    pub walk-more : t .number ≡ 0 → Walking s (t .profile) (t .at) (i + 1)
-    walk-more z = record { within = omega arith; rest = turned ∙ rw (eq-eqb (t .number) 0 z) }
+    pub walk-more : t .answer .number ≡ 0 → Walking s (t .profile) (t .at) (i + 1)
+    walk-more z = record { within = omega arith; rest = turned ∙ rw (eq-eqb (t .answer .number) 0 z) }
 
 -- after the last field
 module _ {s : List ℕ} {p : Profile} {at i : ℕ} (h : Walking s p at i) (le : many ≤ i) {n : ℕ} (e : n ≡ ending (drop at s)) where
-  over : reading s ≡ pick (eqb n 0) (record { number = 0; profile = p }) (refused n)
-  over = h .rest ∙ rw (drop-of-length-le fields le, e) (walk-end p (drop at s))
+  over : reading s ≡ pick (eqb n 0) (record { number = 0; place = 0; profile = p }) (refused (only n))
+  over = h .rest ∙ rw (drop-of-length-le fields le, e) (walk-end at p (drop at s))
 
-  pub walk-surplus : (n ≡ 0 → ⊥) → refused n ≡ reading s
+  pub walk-surplus : (n ≡ 0 → ⊥) → refused (only n) ≡ reading s
   walk-surplus ne = sym (over ∙ rw (ne-eqb n 0 ne))
 
-  pub walk-done : n ≡ 0 → record { number = 0; profile = p } ≡ reading s
+  pub walk-done : n ≡ 0 → record { number = 0; place = 0; profile = p } ≡ reading s
   walk-done z = sym (over ∙ rw (eq-eqb n 0 z))
 
--- ---- the range of a value, turn by turn
+-- ---- what is at fault in a value, turn by turn: from field i on, whose header would begin at a byte
 
-pub record Ranging (p : Profile) (i : ℕ) : Type 0 where
+pub record Finding (p : Profile) (at i : ℕ) : Type 0 where
   pub within : i ≤ many
-  pub rest : inRange p ≡ allGood (drop i fields) p
+  pub room : at ≤ 300 * i
+  pub rest : fault p ≡ faultFrom (drop i fields) at p
 
-pub range-start : (p : Profile) → Ranging p 0
-unfolding inRange
-range-start p = record { within = omega arith; rest = refl }
+pub find-start : (p : Profile) → Finding p 0 0
+unfolding fault
+find-start p = record { within = omega arith; room = omega arith; rest = refl }
 
-module _ {p : Profile} {i : ℕ} (h : Ranging p i) where
-  module _ (lt : i < many) where
-    next-good : inRange p ≡ field i .good p && allGood (drop (i + 1) fields) p
-    next-good = h .rest ∙ ap (λ (fs : List Field). allGood fs p) (fields-at i lt)
+module _ {p : Profile} {at i : ℕ} (h : Finding p at i) where
+  module _ (lt : i < many) {a : Answer} (e : a ≡ faultOf (field i) at p) where
+    next-fault : fault p ≡ pick (eqb (a .number) 0) (faultFrom (drop (i + 1) fields) (at + 3 + field i .due p) p) a
+    next-fault = h .rest ∙ ap (λ (fs : List Field). faultFrom fs at p) (fields-at i lt) ∙ rw e
 
-    pub range-bad : field i .good p ≡ false → false ≡ inRange p
-    range-bad g = sym (next-good ∙ rw g)
+    pub find-bad : (a .number ≡ 0 → ⊥) → a ≡ fault p
+    find-bad ne = sym (next-fault ∙ rw (ne-eqb (a .number) 0 ne))
 
-    pub range-more : field i .good p ≡ true → Ranging p (i + 1)
-    range-more g = record { within = omega arith; rest = next-good ∙ rw g }
+    pub find-more : a .number ≡ 0 → (due : ℕ) → due ≡ field i .due p → due < 256 → Finding p (at + 3 + due) (i + 1)
+    find-more z due d l =
+        record { within = omega arith; room = omega (arith, h .room); rest = next-fault ∙ rw (eq-eqb (a .number) 0 z, d) }
 
-  pub range-done : many ≤ i → true ≡ inRange p
-  range-done le = sym (h .rest ∙ rw (drop-of-length-le fields le))
+  pub find-done : many ≤ i → only 0 ≡ fault p
+  find-done le = sym (h .rest ∙ rw (drop-of-length-le fields le))

@@ -10,7 +10,8 @@ use lib.ListN.{length, take, drop, replicate, take-append-drop, length-drop}
 use lib.Pow.{shr-shr}
 use lib.Seq.{length-take-le}
 use Rattle.rules.specs.Bits.{row}
-use Rattle.rules.specs.Profile.{number, words, wordBytes, allBytes, all}
+use Rattle.rules.specs.Profile.{number, words, wordBytes, allBytes, each}
+use Rattle.profile.proofs.Tests.{allGood}
 
 -- ---- bytes
 
@@ -76,14 +77,14 @@ pub words-read : (good : ℕ → Bool)
     → ((x : ℕ) → T (good x) → x < 2 ^ 32)
     → (n : ℕ) (xs : List ℕ)
     → length xs ≡ n
-    → T (all good xs)
+    → T (allGood (each 4 good xs))
     → words n (allBytes xs) ≡ xs
 words-read good low zero [] e g = refl
 words-read good low zero (x ∷ xs) e g = absurd (omega arith)
 words-read good low (suc n) [] e g = absurd (omega arith)
 words-read good low (suc n) (x ∷ xs) e g =
-    ap₂ _∷_ (word-read x (low x (and-l (good x) (all good xs) g)))
-    (words-read good low n xs (omega arith) (and-r (good x) (all good xs) g))
+    ap₂ _∷_ (word-read x (low x (and-l (good x) (allGood (each 4 good xs)) g)))
+    (words-read good low n xs (omega arith) (and-r (good x) (allGood (each 4 good xs)) g))
 
 pub words-written : (n : ℕ) (s : List ℕ) → length s ≡ 4 * n → Bytes s → allBytes (words n s) ≡ s
 words-written zero [] e b = refl
@@ -97,7 +98,7 @@ words-written (suc n) s e b =
 
 -- ---- zeros
 
-pub zeros : (s : List ℕ) → T (all (eqb 0) s) → s ≡ replicate (length s) 0
+pub zeros : (s : List ℕ) → T (allGood (each 4 (eqb 0) s)) → s ≡ replicate (length s) 0
 zeros [] z = refl
 zeros (x ∷ s) z =
-    ap₂ _∷_ (sym (eqb→eq 0 x (and-l (eqb 0 x) (all (eqb 0) s) z))) (zeros s (and-r (eqb 0 x) (all (eqb 0) s) z))
+    ap₂ _∷_ (sym (eqb→eq 0 x (and-l (eqb 0 x) (allGood (each 4 (eqb 0) s)) z))) (zeros s (and-r (eqb 0 x) (allGood (each 4 (eqb 0) s)) z))

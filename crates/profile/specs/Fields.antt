@@ -1,7 +1,7 @@
 -- What the crate's own functions answer: a field by its number, what its header says, what stands after the last field.
-use mathlib.Core.Bool.{Bool, true, not, _&&_}
-use mathlib.Core.List.{List, []}
-use Prim.Native.Nat.{ℕ, _+_, _*_}
+use mathlib.Core.Bool.{Bool, not, _&&_}
+use mathlib.Core.List.{List, [], _∷_}
+use Prim.Native.Nat.{ℕ, suc, _+_, _*_}
 use lib.Dec.{eqb, leb, ltb}
 use lib.ListN.{length, getD}
 use Rattle.rules.specs.Bits.{pick, row}
@@ -11,13 +11,18 @@ use Rattle.rules.specs.Profile.{Field, fields}
 abbrev pub between : ℕ → ℕ → ℕ → Bool
 between low high x = leb low x && ltb x high
 
+-- how many numbers stand before the first that fails a test; all of them where none does
+abbrev pub passing : (ℕ → Bool) → List ℕ → ℕ
+passing f [] = 0
+passing f (x ∷ xs) = pick (f x) (suc (passing f xs)) 0
+
 -- how many fields there are
 abbrev pub many : ℕ
 many = length fields
 
 -- field i of the table, from 0; after the last one a field of which nothing is asked
 abbrev pub none : Field
-none = record { tag = 0; due = λ p. 0; with = λ p s. p; good = λ p. true; bytes = λ p. [] }
+none = record { tag = 0; refusal = 0; due = λ p. 0; with = λ p s. p; tested = λ p. []; bytes = λ p. [] }
 
 unfoldable pub field : ℕ → Field
 field i = getD fields i none

@@ -1,11 +1,13 @@
 // The table of fields, by number from 0: field i has the tag i + 1. A field more is an arm more in each of the functions.
 ghost use mathlib.Core.Path.{_≡_};
-ghost use Prim.Native.Nat.{_+_, _<_, _≤_};
+ghost use Prim.Native.Nat.{_+_, _^_, _<_, _≤_};
 ghost use lib.ListN.{length};
 ghost use lib.Seq.{sets};
+ghost use Rattle.rules.specs.Profile.{faultOf};
 ghost use Rattle.profile.specs.Fields.{field, many};
 use super::numbers;
 use super::ranges;
+use rules::Answer;
 use rules::Profile;
 
 pub(crate) const FIELDS: usize = 5;
@@ -24,22 +26,22 @@ pub(crate) fn due(i: usize, p: Profile) -> usize
     }
 }
 
-// Whether the field's value is in its range.
-pub(crate) fn good(i: usize, p: Profile) -> bool
-    requires { ⌜ i < many ⌝ }
-    ensures { λ r. ⌜ r ≡ field i .good p ⌝ }
+// What is at fault in the field's value, where its header begins at a byte.
+pub(crate) fn fault(i: usize, at: usize, p: Profile) -> Answer
+    requires { ⌜ (i < many) × (at < 2 ^ 63) ⌝ }
+    ensures { λ r. ⌜ r ≡ faultOf (field i) at p ⌝ }
 {
     match i {
         0 => {
             let masks = p.masks;
-            ranges::masks_good(masks)
+            ranges::masks_fault(40, at + 3, masks)
         }
-        1 => ranges::level_good(p.level),
-        2 => ranges::mode_good(p.mode),
-        3 => ranges::k_good(p.k),
+        1 => ranges::single(ranges::level_good(p.level), 41, at + 3),
+        2 => ranges::single(ranges::mode_good(p.mode), 42, at + 3),
+        3 => ranges::single(ranges::k_good(p.k), 43, at + 3),
         _ => {
             let seeds = p.seeds;
-            ranges::seeds_good(p.mode, seeds)
+            ranges::seeds_fault(44, at + 3, p.mode, seeds)
         }
     }
 }

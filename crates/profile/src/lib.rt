@@ -3,7 +3,7 @@ ghost use mathlib.Core.Path.{_≡_};
 ghost use Prim.Native.Nat.{_≤_};
 ghost use lib.ListN.{length};
 ghost use lib.Seq.{sets};
-ghost use Rattle.rules.specs.Profile.{blank as blankOf, inRange, reading, refused as refusedOf, writing, written};
+ghost use Rattle.rules.specs.Profile.{blank as blankOf, fault as faultOf, reading, refused as refusedOf, writing, written};
 
 mod fields;
 mod header;
@@ -12,6 +12,7 @@ mod ranges;
 mod reader;
 
 use fields::FIELDS;
+use rules::Answer;
 use rules::Profile;
 use rules::Reading;
 use rules::Writing;
@@ -19,18 +20,24 @@ use rules::Writing;
 // The largest size of a profile.
 const LARGEST: usize = 245;
 
-// Whether every number of the value is in its range.
-pub fn in_range(p: Profile) -> bool
-    ensures { λ r. ⌜ r ≡ inRange p ⌝ }
+// What is at fault in a value, with its place as if it had been written out; 0 where every number is in its range.
+pub fn fault(p: Profile) -> Answer
+    ensures { λ r. ⌜ r ≡ faultOf p ⌝ }
 {
+    let mut at = 0;
     let mut i = 0;
     while i < FIELDS {
-        if !fields::good(i, p) {
-            return false;
+        let a = fields::fault(i, at, p);
+        if a.number != 0 {
+            return a;
         }
+        at = at + 3 + fields::due(i, p);
         i += 1;
     }
-    true
+    Answer {
+        number: 0,
+        place: 0,
+    }
 }
 
 // All numbers zero, D +0.0.
@@ -46,12 +53,16 @@ fn blank() -> Profile
     }
 }
 
-// A refusal: its number, and the blank profile.
-fn refused(number: u32) -> Reading
-    ensures { λ r. ⌜ r ≡ refusedOf number ⌝ }
+// A refusal, with the blank profile.
+fn refused(a: Answer) -> Reading
+    ensures { λ r. ⌜ r ≡ refusedOf a ⌝ }
 {
     let profile = blank();
-    Reading { number, profile }
+    Reading {
+        number: a.number,
+        place: a.place,
+        profile,
+    }
 }
 
 // Reads any bytes, field by field.
@@ -63,8 +74,9 @@ pub fn read(bytes: &[u8]) -> Reading
     let mut i = 0;
     while i < FIELDS {
         let step = reader::field_at(bytes, at, i, p);
-        if step.number != 0 {
-            return refused(step.number);
+        let a = step.answer;
+        if a.number != 0 {
+            return refused(a);
         }
         let next = step.profile;
         p = next;
@@ -73,10 +85,14 @@ pub fn read(bytes: &[u8]) -> Reading
     }
     let n = header::ending(bytes, at);
     if n != 0 {
-        return refused(n);
+        return refused(Answer {
+            number: n,
+            place: 0,
+        });
     }
     Reading {
         number: 0,
+        place: 0,
         profile: p,
     }
 }
@@ -102,10 +118,12 @@ fn put_all(s: &mut [u8], p: Profile) -> usize
 pub fn write(p: Profile) -> Writing
     ensures { λ r. ⌜ r ≡ writing p ⌝ }
 {
+    let a = fault(p);
     let mut bytes = [0u8; LARGEST];
-    if !in_range(p) {
+    if a.number != 0 {
         return Writing {
-            number: 4,
+            number: a.number,
+            place: a.place,
             bytes,
             count: 0,
         };
@@ -113,6 +131,7 @@ pub fn write(p: Profile) -> Writing
     let count = put_all(&mut bytes, p);
     Writing {
         number: 0,
+        place: 0,
         bytes,
         count,
     }

@@ -1,10 +1,15 @@
-// The range of each field's value.
+// The range of each field's value, and what is at fault in it.
 ghost use mathlib.Core.Path.{_≡_};
-ghost use Prim.Native.Nat.{_≤_};
+ghost use mathlib.Core.List.{_++_};
+ghost use Prim.Native.Nat.{_+_, _*_, _^_, _<_, _≤_};
+ghost use lib.Dec.{eqb};
+ghost use lib.ListN.{length, take, drop};
 ghost use Rattle.rules.specs.Outer.{isK};
-ghost use Rattle.rules.specs.Profile.{all, areSeeds, in20, isLevel};
+ghost use Rattle.rules.specs.Bits.{pick};
+ghost use Rattle.rules.specs.Profile.{each, faulty, in20, isLevel, only};
 ghost use Rattle.rules.specs.Slots.{isMode, slots as slotsOf};
-ghost use Rattle.profile.specs.Fields.{between};
+ghost use Rattle.profile.specs.Fields.{between, passing as passingOf};
+use rules::Answer;
 
 // The smallest normal and the largest finite f32.
 const LEAST: f32 = 1.17549435e-38;
@@ -28,25 +33,48 @@ fn is_between(x: u32, low: u32, high: u32) -> bool
     low <= x && x < high
 }
 
-// Whether each number is.
-fn all_between(l: &[u32], low: u32, high: u32) -> bool
-    ensures { λ r. ⌜ r ≡ all (between low high) (now (l .entry)) ⌝ }
+// How many numbers stand before the first that isn't; all of them where each is.
+fn passing(l: &[u32], low: u32, high: u32) -> usize
+    ensures { λ r. ⌜ (r ≡ passingOf (between low high) (now (l .entry))) × (r ≤ length (now (l .entry))) ⌝ }
 {
     let mut i = 0;
     while i < l.len() {
         if !is_between(l[i], low, high) {
-            return false;
+            return i;
         }
         i += 1;
     }
-    true
+    i
+}
+
+// What is at fault in a single number that begins at a byte.
+pub(crate) fn single(good: bool, number: u32, at: usize) -> Answer
+    ensures { λ r. ⌜ r ≡ pick good (only 0) (record { number = number; place = at }) ⌝ }
+{
+    if good {
+        Answer {
+            number: 0,
+            place: 0,
+        }
+    } else {
+        Answer { number, place: at }
+    }
+}
+
+// What is at fault in numbers of four bytes each from a byte on, of which n stand before the first faulty one.
+fn several(number: u32, at: usize, n: usize, all: usize) -> Answer
+    requires { ⌜ at + 4 * n < 2 ^ 64 ⌝ }
+    ensures { λ r. ⌜ r ≡ pick (eqb n all) (only 0) (record { number = number; place = at + 4 * n }) ⌝ }
+{
+    single(n == all, number, at + 4 * n)
 }
 
 // Field 1.
-pub(crate) fn masks_good(masks: [u32; 8]) -> bool
-    ensures { λ r. ⌜ r ≡ all in20 masks ⌝ }
+pub(crate) fn masks_fault(number: u32, at: usize, masks: [u32; 8]) -> Answer
+    requires { ⌜ at ≤ 2 ^ 63 + 3 ⌝ }
+    ensures { λ r. ⌜ r ≡ faulty number at (each 4 in20 masks) ⌝ }
 {
-    all_between(&masks, 1, LIMIT)
+    several(number, at, passing(&masks, 1, LIMIT), 8)
 }
 
 // Field 2: D is positive, finite and normal; a NaN fails both tests.
@@ -71,9 +99,17 @@ pub(crate) fn k_good(k: u8) -> bool
 }
 
 // Field 5: as many seeds as the mode has slots, and zeros after them.
-pub(crate) fn seeds_good(mode: u8, seeds: [u32; 48]) -> bool
-    ensures { λ r. ⌜ r ≡ areSeeds mode seeds ⌝ }
+pub(crate) fn seeds_fault(number: u32, at: usize, mode: u8, seeds: [u32; 48]) -> Answer
+    requires { ⌜ at ≤ 2 ^ 63 + 3 ⌝ }
+    ensures { λ r. ⌜ r ≡ faulty number at (each 4 in20 (take (slotsOf mode) seeds) ++ each 4 (eqb 0) (drop (slotsOf mode) seeds)) ⌝ }
 {
     let n = slots(mode);
-    all_between(&seeds[..n], 1, LIMIT) && all_between(&seeds[n..], 0, 1)
+    let used = passing(&seeds[..n], 1, LIMIT);
+    if used < n {
+        return Answer {
+            number,
+            place: at + 4 * used,
+        };
+    }
+    several(number, at, n + passing(&seeds[n..], 0, 1), 48)
 }

@@ -6,6 +6,7 @@ ghost use Rattle.profile.specs.Fields.{many};
 ghost use Rattle.profile.specs.Reader.{taken};
 use super::fields;
 use super::header;
+use rules::Answer;
 use rules::Profile;
 
 // A lent profile, and a position in it.
@@ -14,10 +15,9 @@ pub(crate) struct Reader<'a> {
     pub(crate) at: usize,
 }
 
-// What taking a field answers: at 0 the position after the field and the profile with its value, else the number of the refusal and both as they
-// were.
+// What taking a field answers: at 0 the position after the field and the profile with its value, else the refusal and both as they were.
 pub(crate) struct Step {
-    pub(crate) number: u32,
+    pub(crate) answer: Answer,
     pub(crate) at: usize,
     pub(crate) profile: Profile,
 }
@@ -31,22 +31,26 @@ pub(crate) fn take(s: &[u8], at: usize, i: usize, p: Profile) -> Step
     let n = header::judge(s, at, (i + 1) as u8, due);
     if n != 0 {
         return Step {
-            number: n,
+            answer: Answer {
+                number: n,
+                place: 0,
+            },
             at,
             profile: p,
         };
     }
     let next = at + 3 + due;
     let profile = fields::with_value(i, p, &s[at + 3..next]);
-    if !fields::good(i, profile) {
+    let answer = fields::fault(i, at, profile);
+    if answer.number != 0 {
         return Step {
-            number: 4,
+            answer,
             at,
             profile: p,
         };
     }
     Step {
-        number: 0,
+        answer,
         at: next,
         profile,
     }

@@ -28,7 +28,7 @@ refused-requires c κs = tt
 
 returns : tie.Need-returns Inv-loop μ-loop
 returns c =
-    let b = c .before .before .before in
+    let b = c .before .before .before .before in
     c .refused .ensures ∙ walk-refused (b .before .before .loop .inv) (search needs) (b .field-at .ensures) (c .before .if1 .taken)
 
 add-i : tie.Need-add-i Inv-loop μ-loop
@@ -39,7 +39,7 @@ loop-less c = search needs
 
 loop-again : tie.Need-loop-again Inv-loop μ-loop
 loop-again c =
-    let b = c .before .before .before in
+    let b = c .before .before .before .before in
     walk-more (b .before .before .loop .inv) (search needs) (b .field-at .ensures) (c .before .if1 .left)
 
 ending-requires : tie.Need-ending-requires Inv-loop μ-loop

@@ -1,10 +1,8 @@
--- A value out of range is refused; of any other, the stored bytes and zeros after them.
-use mathlib.Core.Path.{_≡_, refl, sym, _∙_}
-use mathlib.Core.Bool.{false}
-use Rattle.rules.specs.Profile.{inRange}
-use borrow.Author.Tests.{not-true, not-false}
-use Rattle.rules.specs.Profile.{Shape}
-use Rattle.profile.proofs.Written.{written-most, writing-of}
+-- A value with a number out of its range is refused; of any other, the stored bytes and zeros after them.
+use mathlib.Core.Path.{_≡_, sym, ap, _∙_}
+use Rattle.rules.specs.Profile.{Shape, fault}
+use Rattle.rules.specs.declared.Answer.{Answer}
+use Rattle.profile.proofs.Written.{written-most, writing-of, writing-not}
 use borrow.Author.Needs.{needs}
 use Rattle.profile.proofs.write.Statement.{statement}
 use Rattle.profile.proofs.write.Tie as tie
@@ -12,27 +10,28 @@ use Rattle.profile.proofs.write.Tie as tie
 shaped : (c : tie.Start) → Shape (c .args .p)
 shaped c = record { masks = search needs; level = search needs; seeds = search needs }
 
-in-range-requires : tie.Need-in-range-requires
-in-range-requires c κs = search needs
+fault-requires : tie.Need-fault-requires
+fault-requires c κs = search needs
 
 returns : tie.Need-returns
 returns c =
-    let out : inRange (c .before .before .args .p) ≡ false = sym (c .before .in-range .ensures) ∙ not-true _ (c .if1 .taken) in
-    rw out refl
+    let f = c .before .before in
+    rw (f .fault .ensures) (writing-not (f .before .args .p) (λ z. c .if1 .taken (ap (λ (a : Answer). a .number) (f .fault .ensures) ∙ z)))
 
 slice-aggregate-put-all : tie.Need-slice-aggregate-put-all
 slice-aggregate-put-all c = search needs
 
 put-all-requires : tie.Need-put-all-requires
-put-all-requires c κs = written-most (c .before .before .before .args .p) (shaped (c .before .before .before))
+put-all-requires c κs = let s = c .before .before .before .before in written-most (s .args .p) (shaped s)
 
 returns-2 : tie.Need-returns-2
 returns-2 c =
-    let b = c .before .before .before .before in
-    let good = sym (not-false _ (c .before .before .before .if1 .left)) ∙ b .in-range .ensures in
-    writing-of (b .before .args .p) (shaped (b .before)) _ _ good (c .before .put-all .ensures .0) (c .before .put-all .ensures .1)
+    let e = c .before .before .before in
+    let f = e .before .before in
+    let good = sym (ap (λ (a : Answer). a .number) (f .fault .ensures)) ∙ e .if1 .left in
+    writing-of (f .before .args .p) (shaped (f .before)) _ _ good (c .before .put-all .ensures .0) (c .before .put-all .ensures .1)
 
 pub write-spec : {M : Type 1} → statement M
 write-spec =
     tie.close
-    (tie.spec in-range-requires returns slice-aggregate-put-all put-all-requires returns-2)
+    (tie.spec fault-requires returns slice-aggregate-put-all put-all-requires returns-2)

@@ -1,8 +1,6 @@
 -- Judged by its header, then by its value.
-use mathlib.Core.Path.{sym, _∙_}
 use native.Mathlib.Omega.{arith}
 use borrow.Author.Needs.{needs}
-use borrow.Author.Tests.{not-true, not-false}
 use Rattle.profile.proofs.Walk.{Judged, taken-not, value-room, value-due, taken-bad, taken-good}
 use Rattle.profile.proofs.reader.take.Statement.{statement}
 use Rattle.profile.proofs.reader.take.Tie as tie
@@ -48,20 +46,22 @@ part-with-value-end c = value-room (judged (c .before)) (c .if1 .left)
 with-value-requires : tie.Need-with-value-requires
 with-value-requires c κs = (search needs, value-due (judged (c .before .before)) (c .before .if1 .left))
 
-good-requires : tie.Need-good-requires
-good-requires c κs = search needs
+fault-requires : tie.Need-fault-requires
+fault-requires c κs =
+    let e = c .before .before in
+    (search needs, omega (arith, value-room (judged (e .before)) (e .if1 .left)))
 
 returns-2 : tie.Need-returns-2
 returns-2 c =
-    let b = c .before .before .before .before in
-    taken-bad (judged (b .before)) (b .if1 .left) (c .before .before .with-value .ensures)
-    (sym (c .before .good2 .ensures) ∙ not-true _ (c .if2 .taken))
+    let f = c .before .before in
+    let e = f .before .before .before in
+    taken-bad (judged (e .before)) (e .if1 .left) (f .before .with-value .ensures) (f .fault .ensures) (c .if2 .taken)
 
 returns-3 : tie.Need-returns-3
 returns-3 c =
-    let b = c .before .before .before .before in
-    taken-good (judged (b .before)) (b .if1 .left) (c .before .before .with-value .ensures)
-    (sym (c .before .good2 .ensures) ∙ not-false _ (c .if2 .left))
+    let f = c .before .before in
+    let e = f .before .before .before in
+    taken-good (judged (e .before)) (e .if1 .left) (f .before .with-value .ensures) (f .fault .ensures) (c .if2 .left)
 
 pub take-spec : {M : Type 1} → statement M
 take-spec =
@@ -79,6 +79,6 @@ take-spec =
     part-with-value-start
     part-with-value-end
     with-value-requires
-    good-requires
+    fault-requires
     returns-2
     returns-3)

@@ -1,0 +1,97 @@
+-- What is at fault in a profile: nothing exactly where each of its numbers is in its range, and else a number that names a field. An answer in which
+-- that comes first.
+use mathlib.Core.Path.{_≡_, refl, sym, ap, _∙_, subst}
+use mathlib.Core.Bool.{Bool, true, false, _&&_, _||_}
+use mathlib.Core.Logic.{_⊎_, inl, inr, ⊎-elim, _↔_}
+use Prim.Native.Nat.{ℕ, _≤_}
+use native.Mathlib.Decide.{ℕ-discrete}
+use lib.Dec.{T, eqb, leb, eqb→eq}
+use lib.Ieee.Bits.{is-true}
+use lib.Ieee.Fits.{and-i, eq→eqb}
+use Rattle.rules.specs.Answers.{isNumber, namesField, isAnswer}
+use Rattle.rules.specs.Demands.{Names}
+use Rattle.rules.specs.Profile.{fields, only, _or_, fault, inRange}
+use Rattle.rules.specs.declared.Answer.{Answer}
+use Rattle.rules.specs.declared.Profile.{Profile}
+use Rattle.profile.proofs.Table.{Good, good-from, from-named, first-passed, first-stays}
+use Rattle.profile.proofs.Entries.{laws}
+
+-- zero names no field
+pub named-not-zero : (n : ℕ) → T (namesField n) → ¬ (n ≡ 0)
+named-not-zero n t z = subst (λ (k : ℕ). T (namesField k)) z t
+
+-- ---- a profile is in its range, or a field is named
+
+pub record Fine (P : Profile) : Type 0 where
+  pub each : Good fields P
+  pub range : T (inRange P)
+  pub none : fault P ≡ only 0
+
+pub record Faulty (P : Profile) : Type 0 where
+  pub outside : ¬ T (inRange P)
+  pub named : T (namesField (fault P .number))
+
+pub by-fault : (P : Profile) → Fine P ⊎ Faulty P
+unfolding inRange fault
+by-fault P =
+    ⊎-elim (λ g. let e = good-from fields 0 P g in inl (record { each = g; range = rw e tt; none = e }))
+    (λ t. inr (record { outside = λ r. named-not-zero (fault P .number) t (eqb→eq (fault P .number) 0 r); named = t }))
+    (from-named fields 0 P laws)
+
+pub fine : (P : Profile) → T (inRange P) → Fine P
+fine P r = ⊎-elim (λ w. w) (λ w. absurd (w .outside r)) (by-fault P)
+
+pub outside-faulty : (P : Profile) → ¬ T (inRange P) → Faulty P
+outside-faulty P o = ⊎-elim (λ w. absurd (o (w .range))) (λ w. w) (by-fault P)
+
+-- what is read off the number
+pub ranged : (P : Profile) → fault P .number ≡ 0 → T (inRange P)
+unfolding inRange
+ranged P z = eq→eqb z
+
+-- ---- an answer in which it comes first
+
+module _ (P : Profile) (n : ℕ) where
+  pub or-fine : T (inRange P) → fault P or only n ≡ only n
+  or-fine r = first-passed (fault P) (only n) (ap (λ (a : Answer). a .number) (fine P r .none))
+
+  pub or-faulty : ¬ T (inRange P) → fault P or only n ≡ fault P
+  or-faulty o = first-stays (fault P) (only n) (named-not-zero (fault P .number) (outside-faulty P o .named))
+
+named-number : (n : ℕ) → T (namesField n) → T (isNumber n)
+named-number n t = go (leb n 3 || leb 5 n && leb n 10 || eqb n 16 || eqb n 17 || eqb n 22) (namesField n) t
+  where
+    go : (b c : Bool) → T c → T (b || c)
+    go true c t = tt
+    go false c t = t
+
+-- a number that names a field may have any place, and every other one of the table has none
+pub named-told : (a : Answer) → T (namesField (a .number)) → T (isAnswer (a .number) (a .place))
+named-told a t =
+    and-i (isNumber (a .number)) (namesField (a .number) || eqb (a .place) 0) (named-number (a .number) t)
+    (rw (is-true (namesField (a .number)) t) tt)
+
+pub only-told : (n : ℕ) → T (isNumber n) → T (isAnswer n 0)
+only-told n t = and-i (isNumber n) (namesField n || true) t (go (namesField n))
+  where
+    go : (b : Bool) → T (b || true)
+    go true = tt
+    go false = tt
+
+pub fault-told : (P : Profile) (n : ℕ) → T (isNumber n) → (let a = fault P or only n in T (isAnswer (a .number) (a .place)))
+fault-told P n t =
+    ⊎-elim (λ w. rw (or-fine P n (w .range)) (only-told n t)) (λ w. rw (or-faulty P n (w .outside)) (named-told (fault P) (w .named))) (by-fault P)
+
+-- it names a field exactly where the profile is at fault
+pub fault-names : (P : Profile) (n : ℕ) (a : Answer) → ¬ T (namesField n) → a ≡ fault P or only n → Names P a
+fault-names P n a not e =
+    ⊎-elim
+    (λ w. (
+      ((λ t. absurd (not (subst (λ (b : Answer). T (namesField (b .number))) (e ∙ or-fine P n (w .range)) t))), (λ o. absurd (o (w .range)))),
+      λ o. absurd (o (w .range)),
+    ))
+    (λ w. (
+      ((λ t. w .outside), (λ o. subst (λ (b : Answer). T (namesField (b .number))) (sym (e ∙ or-faulty P n o)) (w .named))),
+      λ o. e ∙ or-faulty P n o,
+    ))
+    (by-fault P)

@@ -1,0 +1,94 @@
+-- The first faulty seed of those in use, or of those after them.
+use mathlib.Core.Path.{_≡_, refl, sym, _∙_}
+use native.Mathlib.Omega.{arith}
+use lib.ListN.{length, take}
+use lib.Seq.{length-take-le}
+use borrow.Author.Needs.{needs}
+use Rattle.profile.proofs.Tests.{used-fault, unused-fault}
+use Rattle.profile.proofs.ranges.seeds_fault.Statement.{statement}
+use Rattle.profile.proofs.ranges.seeds_fault.Tie as tie
+
+whole : (c : tie.Start) → length (c .args .t4) ≡ 48
+whole c = search needs
+
+slots-requires : tie.Need-slots-requires
+slots-requires c κs = search needs
+
+array-share-prefix-seeds : tie.Need-array-share-prefix-seeds
+array-share-prefix-seeds c = search needs
+
+slice-aggregate-passing : tie.Need-slice-aggregate-passing
+slice-aggregate-passing c = sym (length-take-le _ _ (search needs))
+
+passing-requires : tie.Need-passing-requires
+passing-requires c κs = search needs
+
+mul-t11 : tie.Need-mul-t11
+mul-t11 c = search needs
+
+add-t12 : tie.Need-add-t12
+add-t12 c = search needs
+
+returns : tie.Need-returns
+returns c =
+    let p = c .before in
+    let s = p .before .before in
+    let a = s .before .args in
+    let long = whole (s .before) in
+    rw (p .passing .ensures .0)
+    (used-fault (a .number) (a .at) (a .mode) (s .slots .result) (a .t4) (s .slots .ensures .0) long (omega arith) (rw (p .passing .ensures .0) at (c .if1 .taken)))
+
+mul-passing : tie.Need-mul-passing
+mul-passing c = search needs
+
+sub-passing : tie.Need-sub-passing
+sub-passing c = search needs
+
+part-passing-start : tie.Need-part-passing-start
+part-passing-start c = search needs
+
+part-passing-end : tie.Need-part-passing-end
+part-passing-end c = search needs
+
+passing-requires-2 : tie.Need-passing-requires-2
+passing-requires-2 c κs = search needs
+
+add-several : tie.Need-add-several
+add-several c = search needs
+
+several-requires : tie.Need-several-requires
+several-requires c κs = search needs
+
+returns-2 : tie.Need-returns-2
+returns-2 c =
+    let v = c .before in
+    let e = v .before .before .before in
+    let p = e .before in
+    let s = p .before .before in
+    let a = s .before .args in
+    let long = whole (s .before) in
+    let first : length (take (s .slots .result) (a .t4)) ≡ s .slots .result = length-take-le (s .slots .result) (a .t4) (omega arith) in
+    let all : p .passing .result ≡ s .slots .result = omega (arith, p .passing .ensures .1) in
+    c .several .ensures
+    ∙ rw (v .passing2 .ensures .0)
+    (unused-fault (a .number) (a .at) (a .mode) (s .slots .result) (a .t4) (s .slots .ensures .0) long (omega arith) (sym (p .passing .ensures .0) ∙ all))
+
+pub seeds-fault-spec : {M : Type 1} → statement M
+seeds-fault-spec =
+    tie.close
+    (tie.spec
+    slots-requires
+    array-share-prefix-seeds
+    slice-aggregate-passing
+    passing-requires
+    mul-t11
+    add-t12
+    returns
+    mul-passing
+    sub-passing
+    part-passing-start
+    part-passing-end
+    passing-requires-2
+    add-several
+    several-requires
+    returns-2)

@@ -1,0 +1,13 @@
+-- By the test.
+use mathlib.Core.Path.{refl}
+use Rattle.profile.proofs.ranges.single.Statement.{statement}
+use Rattle.profile.proofs.ranges.single.Tie as tie
+
+returns : tie.Need-returns
+returns c = rw (c .if1 .taken) refl
+
+returns-2 : tie.Need-returns-2
+returns-2 c = rw (c .if1 .left) refl
+
+pub single-spec : {M : Type 1} → statement M
+single-spec = tie.close (tie.spec returns returns-2)
