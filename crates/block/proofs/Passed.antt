@@ -10,6 +10,7 @@ use Rattle.rules.specs.Bits.{pick}
 use Rattle.rules.specs.Profile.{inRange}
 use Rattle.rules.specs.Block.{early}
 use Rattle.rules.specs.declared.Profile.{Profile}
+use Rattle.profile.proofs.AtFault.{or-number}
 
 pub record Right (P : Profile) (bytes firsts seconds cells : ℕ) : Type 0 where
   pub range : T (inRange P)
@@ -17,29 +18,33 @@ pub record Right (P : Profile) (bytes firsts seconds cells : ℕ) : Type 0 where
   pub firsts-long : firsts ≡ cells
   pub seconds-long : seconds ≡ cells
 
-pub right : (P : Profile) (bytes firsts seconds cells : ℕ) → early P bytes firsts seconds cells ≡ 0 → Right P bytes firsts seconds cells
+-- the tests after the profile's, as the number that they give
+abbrev said : Bool → Bool → Bool → ℕ
+said b c d = pick (not b) 6 (pick (not (c && d)) 7 0)
+
+pub right : (P : Profile) (bytes firsts seconds cells : ℕ) → early P bytes firsts seconds cells .number ≡ 0 → Right P bytes firsts seconds cells
 right P bytes firsts seconds cells e =
-    let w = go (inRange P) (eqb bytes (122 * P .k)) (eqb firsts cells) (eqb seconds cells) e in
-    record { range = w .0; data-long = eqb→eq _ _ (w .1); firsts-long = eqb→eq _ _ (w .2); seconds-long = eqb→eq _ _ (w .3) }
+    let p = or-number P _ 0 (λ t. t) .0 e in
+    let w = go (eqb bytes (122 * P .k)) (eqb firsts cells) (eqb seconds cells) (p .1) in
+    record { range = p .0; data-long = eqb→eq _ _ (w .0); firsts-long = eqb→eq _ _ (w .1); seconds-long = eqb→eq _ _ (w .2) }
   where
-    go : (a b c d : Bool) → pick {A = ℕ} (not a) 4 (pick (not b) 6 (pick (not (c && d)) 7 0)) ≡ 0 → T a × T b × T c × T d
-    go true true true true e = (tt, tt, tt, tt)
-    go true true true false e = absurd (omega arith)
-    go true true false d e = absurd (omega arith)
-    go true false c d e = absurd (omega arith)
-    go false b c d e = absurd (omega arith)
+    go : (b c d : Bool) → said b c d ≡ 0 → T b × T c × T d
+    go true true true e = (tt, tt, tt)
+    go true true false e = absurd (omega arith)
+    go true false d e = absurd (omega arith)
+    go false c d e = absurd (omega arith)
 
 pub early-right : (P : Profile) (bytes firsts seconds cells : ℕ)
-    → (early P bytes firsts seconds cells ≡ 0) ↔ (T (inRange P) × (bytes ≡ 122 * P .k) × (firsts ≡ cells) × (seconds ≡ cells))
+    → (early P bytes firsts seconds cells .number ≡ 0) ↔ (T (inRange P) × (bytes ≡ 122 * P .k) × (firsts ≡ cells) × (seconds ≡ cells))
 early-right P bytes firsts seconds cells = (
   (λ e. let w = right P bytes firsts seconds cells e in (w .range, w .data-long, w .firsts-long, w .seconds-long)),
   λ q.
-      go (inRange P) (eqb bytes (122 * P .k)) (eqb firsts cells) (eqb seconds cells) (q .0) (eq→eqb (q .1)) (eq→eqb (q .2)) (eq→eqb (q .3)),
+      or-number P _ 0 (λ t. t) .1
+      (q .0, go (eqb bytes (122 * P .k)) (eqb firsts cells) (eqb seconds cells) (eq→eqb (q .1)) (eq→eqb (q .2)) (eq→eqb (q .3))),
 )
   where
-    go : (a b c d : Bool) → T a → T b → T c → T d → pick {A = ℕ} (not a) 4 (pick (not b) 6 (pick (not (c && d)) 7 0)) ≡ 0
-    go true true true true p q r s = refl
-    go false b c d p q r s = absurd p
-    go true false c d p q r s = absurd q
-    go true true false d p q r s = absurd r
-    go true true true false p q r s = absurd s
+    go : (b c d : Bool) → T b → T c → T d → said b c d ≡ 0
+    go true true true q r s = refl
+    go false c d q r s = absurd q
+    go true false d q r s = absurd r
+    go true true false q r s = absurd s

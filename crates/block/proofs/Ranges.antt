@@ -1,11 +1,12 @@
 -- What a profile in range has: a level, a mode, a K.
-use mathlib.Core.Bool.{true, _&&_}
+use mathlib.Core.Bool.{true}
 use lib.Dec.{T}
-use lib.Ieee.Fits.{and-l, and-r}
+use lib.Ieee.Fits.{and-l}
 use Rattle.rules.specs.Outer.{isK}
 use Rattle.rules.specs.Slots.{isMode}
-use Rattle.rules.specs.Profile.{all, in20, isLevel, areSeeds, inRange}
+use Rattle.rules.specs.Profile.{isLevel, inRange}
 use Rattle.rules.specs.declared.Profile.{Profile}
+use Rattle.profile.proofs.AtFault.{fine}
 
 pub record Ranges (P : Profile) : Type 0 where
   pub level : T (isLevel (P .level))
@@ -13,16 +14,10 @@ pub record Ranges (P : Profile) : Type 0 where
   pub k : T (isK (P .k))
 
 pub ranges : (P : Profile) → T (inRange P) → Ranges P
-unfolding inRange
 ranges P h =
-    let m = isMode (P .mode) in
-    let k = isK (P .k) in
-    let s = areSeeds (P .mode) (P .seeds) && true in
-    let after-masks = and-r (all in20 (P .masks)) (isLevel (P .level) && (m && (k && s))) h in
-    let after-level = and-r (isLevel (P .level)) (m && (k && s)) after-masks in
-    let after-mode = and-r m (k && s) after-level in
+    let g = fine P h .each in
     record {
-      level = and-l (isLevel (P .level)) (m && (k && s)) after-masks;
-      mode = and-l m (k && s) after-level;
-      k = and-l k s after-mode;
+      level = and-l (isLevel (P .level)) true (g .1 .0);
+      mode = and-l (isMode (P .mode)) true (g .1 .1 .0);
+      k = and-l (isK (P .k)) true (g .1 .1 .1 .0);
     }

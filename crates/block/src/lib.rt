@@ -1,21 +1,21 @@
 // What sending and receiving share: the numbers that come first, the sizes of a mode, and a whole block's scrambling.
 ghost use mathlib.Core.Path.{_≡_};
+ghost use mathlib.Core.Bool.{not, _&&_};
 ghost use Prim.Native.Nat.{_*_, _≤_};
-ghost use Rattle.rules.specs.Bits.{row};
+ghost use lib.Dec.{eqb};
+ghost use Rattle.rules.specs.Bits.{pick, row};
 ghost use Rattle.rules.specs.Slots.{packetBits, slots, slotBits, symbols};
 ghost use Rattle.rules.specs.Block as rule;
 ghost use Rattle.laws.specs.Holds.{Holds};
 ghost use Rattle.block.specs.Steps.{scrambledRow};
+use profile::only;
+use rules::Answer;
 use rules::Profile;
 
-// 4, 6, 7, the first that fits, else 0.
-pub fn early(p: Profile, bytes: usize, firsts: usize, seconds: usize, cells: usize) -> u32
-    ensures { λ r. ⌜ r ≡ rule.early p bytes firsts seconds cells ⌝ }
+// 6, 7, the first that fits, else 0.
+fn lengths(k: u8, bytes: usize, firsts: usize, seconds: usize, cells: usize) -> u32
+    ensures { λ r. ⌜ r ≡ pick (not (eqb bytes (122 * k))) 6 (pick (not (eqb firsts cells && eqb seconds cells)) 7 0) ⌝ }
 {
-    if !profile::in_range(p) {
-        return 4;
-    }
-    let k = p.k;
     if bytes != 122 * (k as usize) {
         return 6;
     }
@@ -26,6 +26,17 @@ pub fn early(p: Profile, bytes: usize, firsts: usize, seconds: usize, cells: usi
         return 7;
     }
     0
+}
+
+// What is at fault in the profile, 6, 7, the first that fits, else 0.
+pub fn early(p: Profile, bytes: usize, firsts: usize, seconds: usize, cells: usize) -> Answer
+    ensures { λ r. ⌜ r ≡ rule.early p bytes firsts seconds cells ⌝ }
+{
+    let a = profile::fault(p);
+    if a.number != 0 {
+        return a;
+    }
+    only(lengths(p.k, bytes, firsts, seconds, cells))
 }
 
 // How many bits a packet has, how many slots a block, and how many symbols a grid.

@@ -21,22 +21,22 @@ use Rattle.outer.proofs.Solve.{unique}
 -- ---- parity
 
 -- the number that comes first: K, then the block's length
-first-k : (b c : Bool) → ¬ T b → 4 ≡ pick {A = ℕ} (not b) 4 (pick (not c) 6 0)
+first-k : (b c : Bool) → ¬ T b → 43 ≡ pick {A = ℕ} (not b) 43 (pick (not c) 6 0)
 first-k true c n = absurd (n tt)
 first-k false c n = refl
 
-first-length : (b c : Bool) → T b → c ≡ false → 6 ≡ pick {A = ℕ} (not b) 4 (pick (not c) 6 0)
+first-length : (b c : Bool) → T b → c ≡ false → 6 ≡ pick {A = ℕ} (not b) 43 (pick (not c) 6 0)
 first-length true true t e = absurd (subst T e tt)
 first-length true false t e = refl
 first-length false c t e = absurd t
 
-first-none : (b c : Bool) → T b → T c → 0 ≡ pick {A = ℕ} (not b) 4 (pick (not c) 6 0)
+first-none : (b c : Bool) → T b → T c → 0 ≡ pick {A = ℕ} (not b) 43 (pick (not c) 6 0)
 first-none true true t u = refl
 first-none true false t u = absurd u
 first-none false c t u = absurd t
 
 module _ {k : ℕ} {before : List ℕ} where
-  pub parity-bad-k : ¬ T (isK k) → ParityMade k before before 4
+  pub parity-bad-k : ¬ T (isK k) → ParityMade k before before 43
   parity-bad-k n =
       record {
         answer = first-k (isK k) (eqb (length before) 1952) n;
@@ -77,7 +77,7 @@ parity-answered {k} {before = before} t long made =
 
 -- an outcome goes by its number
 outcome-of : ℕ → Outcome
-outcome-of n = pick (eqb n 0) Done (pick (eqb n 4) BadK (pick (eqb n 6) BadLength (pick (eqb n 9) TooManyLost NoCodeword)))
+outcome-of n = pick (eqb n 0) Done (pick (eqb n 43) BadK (pick (eqb n 6) BadLength (pick (eqb n 9) TooManyLost NoCodeword)))
 
 numbered : (o : Outcome) → outcome-of (outcomeNumber o) ≡ o
 unfolding outcome-of

@@ -26,7 +26,7 @@ pub fn number(o: Outcome) -> u32
 {
     match o {
         Outcome::Done => 0,
-        Outcome::BadK => 4,
+        Outcome::BadK => 43,
         Outcome::BadLength => 6,
         Outcome::TooManyLost => 9,
         Outcome::NoCodeword => 10,

@@ -58,6 +58,28 @@ module _ (P : Profile) (n : ℕ) where
   pub or-faulty : ¬ T (inRange P) → fault P or only n ≡ fault P
   or-faulty o = first-stays (fault P) (only n) (named-not-zero (fault P .number) (outside-faulty P o .named))
 
+-- as the code goes: what is found at fault is answered, and else a number
+module _ (P : Profile) (n : ℕ) {a : Answer} (e : a ≡ fault P) where
+  pub answer-fault : ¬ (a .number ≡ 0) → a ≡ fault P or only n
+  answer-fault ne = e ∙ sym (first-stays (fault P) (only n) (λ z. ne (ap (λ (x : Answer). x .number) e ∙ z)))
+
+  pub answer-number : a .number ≡ 0 → (b : Answer) → b ≡ only n → b ≡ fault P or only n
+  answer-number z b f = f ∙ sym (first-passed (fault P) (only n) (sym (ap (λ (x : Answer). x .number) e) ∙ z))
+
+-- a number that names no field comes exactly where the profile is in its range and the other answer has it
+pub or-number : (P : Profile) (n k : ℕ) → ¬ T (namesField k) → ((fault P or only n) .number ≡ k) ↔ (T (inRange P) × (n ≡ k))
+or-number P n k not =
+    ⊎-elim
+    (λ w.
+        let e = ap (λ (a : Answer). a .number) (or-fine P n (w .range)) in
+        ((λ z. (w .range, sym e ∙ z)), λ q. e ∙ q .1))
+    (λ w.
+        let e = ap (λ (a : Answer). a .number) (or-faulty P n (w .outside)) in (
+          (λ z. absurd (not (subst (λ (m : ℕ). T (namesField m)) (sym e ∙ z) (w .named)))),
+          λ q. absurd (w .outside (q .0)),
+        ))
+    (by-fault P)
+
 named-number : (n : ℕ) → T (namesField n) → T (isNumber n)
 named-number n t = go (leb n 3 || leb 5 n && leb n 10 || eqb n 16 || eqb n 17 || eqb n 22) (namesField n) t
   where

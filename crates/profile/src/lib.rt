@@ -3,7 +3,7 @@ ghost use mathlib.Core.Path.{_≡_};
 ghost use Prim.Native.Nat.{_≤_};
 ghost use lib.ListN.{length};
 ghost use lib.Seq.{sets};
-ghost use Rattle.rules.specs.Profile.{blank as blankOf, fault as faultOf, reading, refused as refusedOf, writing, written};
+ghost use Rattle.rules.specs.Profile.{blank as blankOf, fault as faultOf, only as onlyOf, reading, refused as refusedOf, writing, written};
 
 mod fields;
 mod header;
@@ -20,6 +20,13 @@ use rules::Writing;
 // The largest size of a profile.
 const LARGEST: usize = 245;
 
+// A number that names no field: the place is zero.
+pub fn only(number: u32) -> Answer
+    ensures { λ r. ⌜ r ≡ onlyOf number ⌝ }
+{
+    Answer { number, place: 0 }
+}
+
 // What is at fault in a value, with its place as if it had been written out; 0 where every number is in its range.
 pub fn fault(p: Profile) -> Answer
     ensures { λ r. ⌜ r ≡ faultOf p ⌝ }
@@ -34,10 +41,7 @@ pub fn fault(p: Profile) -> Answer
         at = at + 3 + fields::due(i, p);
         i += 1;
     }
-    Answer {
-        number: 0,
-        place: 0,
-    }
+    only(0)
 }
 
 // All numbers zero, D +0.0.
@@ -85,10 +89,7 @@ pub fn read(bytes: &[u8]) -> Reading
     }
     let n = header::ending(bytes, at);
     if n != 0 {
-        return refused(Answer {
-            number: n,
-            place: 0,
-        });
+        return refused(only(n));
     }
     Reading {
         number: 0,

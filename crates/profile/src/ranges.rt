@@ -52,10 +52,7 @@ pub(crate) fn single(good: bool, number: u32, at: usize) -> Answer
     ensures { λ r. ⌜ r ≡ pick good (only 0) (record { number = number; place = at }) ⌝ }
 {
     if good {
-        Answer {
-            number: 0,
-            place: 0,
-        }
+        super::only(0)
     } else {
         Answer { number, place: at }
     }

@@ -31,10 +31,7 @@ pub(crate) fn take(s: &[u8], at: usize, i: usize, p: Profile) -> Step
     let n = header::judge(s, at, (i + 1) as u8, due);
     if n != 0 {
         return Step {
-            answer: Answer {
-                number: n,
-                place: 0,
-            },
+            answer: super::only(n),
             at,
             profile: p,
         };

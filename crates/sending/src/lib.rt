@@ -13,6 +13,8 @@ use block::early;
 use block::scrambled;
 use block::slot_count;
 use block::symbol_count;
+use profile::only;
+use rules::Answer;
 use rules::Profile;
 
 // The block's 16 packets of 122 bytes, packet after packet: the data, and its parity.
@@ -61,24 +63,24 @@ fn write_grid(mode: u8, level: f32, bits: &[u8], firsts: &mut [f32], seconds: &m
 }
 
 // Fills the whole grid.
-pub fn send(p: Profile, data: &[u8], firsts: &mut [f32], seconds: &mut [f32]) -> u32
+pub fn send(p: Profile, data: &[u8], firsts: &mut [f32], seconds: &mut [f32]) -> Answer
     ensures { λ r. ⌜ SendRule p (now («data» .entry)) (now (firsts .entry)) (now (seconds .entry)) (now (firsts .exit)) (now (seconds .exit)) r ⌝ }
 {
     let mode = p.mode;
-    let number = early(
+    let a = early(
         p,
         data.len(),
         firsts.len(),
         seconds.len(),
         4096 * symbol_count(mode),
     );
-    if number != 0 {
-        return number;
+    if a.number != 0 {
+        return a;
     }
     let bits = sent_bits(p, data);
     let n = 1000 * slot_count(mode);
     write_grid(mode, p.level, &bits[..n], firsts, seconds);
-    0
+    a
 }
 
 // Fills two lists of 4096 with one symbol's cells.
@@ -88,19 +90,19 @@ pub fn send_symbol(
     symbol: usize,
     firsts: &mut [f32],
     seconds: &mut [f32],
-) -> u32
+) -> Answer
     ensures { λ r. ⌜ SendSymbolRule p (now («data» .entry)) symbol (now (firsts .entry)) (now (seconds .entry)) (now (firsts .exit)) (now (seconds .exit)) r ⌝ }
 {
     let mode = p.mode;
-    let number = early(p, data.len(), firsts.len(), seconds.len(), 4096);
-    if number != 0 {
-        return number;
+    let a = early(p, data.len(), firsts.len(), seconds.len(), 4096);
+    if a.number != 0 {
+        return a;
     }
     if symbol >= symbol_count(mode) {
-        return 8;
+        return only(8);
     }
     let bits = sent_bits(p, data);
     let n = 1000 * slot_count(mode);
     cells::write_symbol(mode, p.level, &bits[..n], symbol, firsts, seconds);
-    0
+    only(0)
 }

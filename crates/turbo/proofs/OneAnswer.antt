@@ -14,7 +14,7 @@ use Rattle.turbo.specs.Coded.{CodingRule, JudgingRule}
 
 -- an answer goes by its number
 coding-of : ℕ → Coding
-coding-of n = pick (eqb n 0) Coded (pick (eqb n 4) WrongMode WrongLength)
+coding-of n = pick (eqb n 0) Coded (pick (eqb n 42) WrongMode WrongLength)
 
 numbered : (a : Coding) → coding-of (codingNumber a) ≡ a
 unfolding coding-of

@@ -14,7 +14,7 @@ fn number(a: Coding) -> usize
 {
     match a {
         Coding::Coded => 0,
-        Coding::WrongMode => 4,
+        Coding::WrongMode => 42,
         Coding::WrongLength => 6,
     }
 }

@@ -45,13 +45,17 @@ loop-again c =
 ending-requires : tie.Need-ending-requires Inv-loop μ-loop
 ending-requires c κs = tt
 
+only-requires : tie.Need-only-requires Inv-loop μ-loop
+only-requires c κs = tt
+
 refused-requires-2 : tie.Need-refused-requires-2 Inv-loop μ-loop
 refused-requires-2 c κs = tt
 
 returns-2 : tie.Need-returns-2 Inv-loop μ-loop
 returns-2 c =
+    let e = c .before .before .before in
     c .refused2 .ensures
-    ∙ walk-surplus (c .before .before .before .before .loop .inv) (search needs) (c .before .before .ending .ensures) (c .before .if2 .taken)
+    ∙ rw (c .before .only .ensures) (walk-surplus (e .before .before .loop .inv) (search needs) (e .ending .ensures) (c .before .before .if2 .taken))
 
 returns-3 : tie.Need-returns-3 Inv-loop μ-loop
 returns-3 c = walk-done (c .before .before .before .loop .inv) (search needs) (c .before .ending .ensures) (c .if2 .left)
@@ -71,6 +75,7 @@ read-spec =
     loop-less
     loop-again
     ending-requires
+    only-requires
     refused-requires-2
     returns-2
     returns-3)

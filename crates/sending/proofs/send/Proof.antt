@@ -5,6 +5,7 @@ use borrow.Author.Needs.{needs}
 use lib.ListN.{length, take}
 use Rattle.rules.specs.Slots.{symbols}
 use Rattle.rules.specs.Block.{early}
+use Rattle.rules.specs.declared.Answer.{Answer}
 use Rattle.block.proofs.Passed.{Right, right}
 use Rattle.sending.proofs.Cells.{Front, front, grid-cells}
 use Rattle.sending.proofs.send.Statement.{statement}
@@ -30,22 +31,22 @@ answer c =
     (c .before .symbol-count .ensures .0)
 
 passed : (c : tie.Else1)
-    → (let a = c .before .before .before .before .before .before .args in
+    → (let a = c .before .before .before .before .before .before .before .args in
     Right (a .p) (length (a .«data» .now)) (length (a .firsts .now)) (length (a .seconds .now)) (4096 * symbols (a .p .mode)))
-passed c = right _ _ _ _ _ (sym (answer (c .before)) ∙ c .if1 .left)
+passed c = right _ _ _ _ _ (sym (ap (λ (x : Answer). x .number) (answer (c .before .before))) ∙ c .if1 .left)
 
 -- the bits that are lent
 lent : (c : tie.After-slot-count)
-    → (let a = c .before .before .before .before .before .before .before .before .args in
+    → (let a = c .before .before .before .before .before .before .before .before .before .args in
     Front (a .p) (a .«data» .now) (take (1000 * c .slot-count .result) (c .before .sent-bits .result)))
 lent c =
-    let a = c .before .before .before .before .before .before .before .before .args in
+    let a = c .before .before .before .before .before .before .before .before .before .args in
     let b = c .before .sent-bits in
     front (a .p) (a .«data» .now) (1000 * c .slot-count .result) (b .result) (ap (λ (n : ℕ). 1000 * n) (c .slot-count .ensures .0))
     (b .ok .1 .0 .1) (b .ensures)
 
 returns : tie.Need-returns
-returns c = record { answer = answer (c .before); cells = λ z. absurd (c .if1 .taken z); kept = λ _. (refl, refl) }
+returns c = record { answer = answer (c .before .before); cells = λ z. absurd (c .if1 .taken z); kept = λ _. (refl, refl) }
 
 sent-bits-requires : tie.Need-sent-bits-requires
 sent-bits-requires c κs = (passed c .range, passed c .data-long)
@@ -79,11 +80,11 @@ returns-2 c =
     let w = c .before .before .before .before in
     let b = w .before .before .before .before in
     let e = b .before .before in
-    let a = e .before .before .before .before .before .before .args in
+    let a = e .before .before .before .before .before .before .before .args in
     record {
-      answer = sym (e .if1 .left) ∙ answer (e .before);
+      answer = answer (e .before .before);
       cells = λ _. grid-cells (a .p) (a .«data» .now) _ (lent b .sent) _ _ (w .write-grid .ensures);
-      kept = λ n. absurd (n refl);
+      kept = λ n. absurd (n (e .if1 .left));
     }
 
 pub send-spec : {M : Type 1} → statement M

@@ -1,11 +1,14 @@
 -- `sending::send_symbol` meets its contract.
-use mathlib.Core.Path.{refl, sym, _∙_, ap}
+use mathlib.Core.Path.{_≡_, refl, sym, _∙_, ap}
 use Prim.Native.Nat.{ℕ, _*_, _<_, _≤_}
 use native.Mathlib.Omega.{arith}
 use borrow.Author.Needs.{needs}
-use borrow.Author.Tests.{lt-ltb, le-ltb, ne-eqb}
+use borrow.Author.Tests.{lt-ltb, le-ltb}
 use lib.ListN.{length, take}
 use Rattle.rules.specs.Slots.{symbols}
+use Rattle.rules.specs.Block.{early}
+use Rattle.rules.specs.declared.Answer.{Answer}
+use Rattle.profile.proofs.Table.{first-passed, first-stays}
 use Rattle.cells.proofs.Fits.{write-done}
 use Rattle.block.proofs.Passed.{Right, right}
 use Rattle.sending.proofs.Cells.{Front, front, symbol-cells}
@@ -15,17 +18,23 @@ use Rattle.sending.proofs.send_symbol.Tie as tie
 early-requires : tie.Need-early-requires
 early-requires c κs = search needs
 
+-- the first answer is 0
+zero : (c : tie.Else1)
+    → (let a = c .before .before .before .before .before .before .args in
+    early (a .p) (length (a .«data» .now)) (length (a .firsts .now)) (length (a .seconds .now)) 4096 .number ≡ 0)
+zero c = sym (ap (λ (x : Answer). x .number) (c .before .before .early .ensures)) ∙ c .if1 .left
+
 passed : (c : tie.Else1)
-    → (let a = c .before .before .before .before .before .args in
+    → (let a = c .before .before .before .before .before .before .args in
     Right (a .p) (length (a .«data» .now)) (length (a .firsts .now)) (length (a .seconds .now)) 4096)
-passed c = right _ _ _ _ _ (sym (c .before .early .ensures) ∙ c .if1 .left)
+passed c = right _ _ _ _ _ (zero c)
 
 -- the bits that are lent
 lent : (c : tie.After-slot-count)
-    → (let a = c .before .before .before .before .before .before .before .before .before .args in
+    → (let a = c .before .before .before .before .before .before .before .before .before .before .args in
     Front (a .p) (a .«data» .now) (take (1000 * c .slot-count .result) (c .before .sent-bits .result)))
 lent c =
-    let a = c .before .before .before .before .before .before .before .before .before .args in
+    let a = c .before .before .before .before .before .before .before .before .before .before .args in
     let b = c .before .sent-bits in
     front (a .p) (a .«data» .now) (1000 * c .slot-count .result) (b .result) (ap (λ (n : ℕ). 1000 * n) (c .slot-count .ensures .0))
     (b .ok .1 .0 .1) (b .ensures)
@@ -33,7 +42,7 @@ lent c =
 returns : tie.Need-returns
 returns c =
     record {
-      answer = sym (rw (← c .before .early .ensures, ne-eqb _ _ (c .if1 .taken)));
+      answer = sym (rw (← c .before .before .early .ensures) (first-stays _ _ (c .if1 .taken)));
       cells = λ z. absurd (c .if1 .taken z);
       kept = λ _. (refl, refl);
     }
@@ -41,13 +50,17 @@ returns c =
 symbol-count-requires : tie.Need-symbol-count-requires
 symbol-count-requires c κs = search needs
 
+only-requires : tie.Need-only-requires
+only-requires c κs = tt
+
 returns-2 : tie.Need-returns-2
 returns-2 c =
-    let a = c .before .before .before .before .before .before .before .args in
-    let past : symbols (a .p .mode) ≤ a .symbol = omega (arith, c .before .symbol-count .ensures .0) in
+    let s = c .before .before in
+    let a = s .before .before .before .before .before .before .before .args in
+    let past : symbols (a .p .mode) ≤ a .symbol = omega (arith, s .symbol-count .ensures .0) in
     record {
-      answer = sym (rw (← c .before .before .before .early .ensures, c .before .before .if1 .left, le-ltb _ _ past));
-      cells = λ z. absurd (omega arith);
+      answer = c .only .ensures ∙ sym (first-passed _ _ (zero (s .before)) ∙ rw (le-ltb _ _ past));
+      cells = λ z. absurd (omega (arith, ap (λ (x : Answer). x .number) (c .only .ensures)));
       kept = λ _. (refl, refl);
     }
 
@@ -69,6 +82,9 @@ slice-aggregate-write-symbol c = ap (λ (n : ℕ). 1000 * n) (c .before .slot-co
 write-symbol-requires : tie.Need-write-symbol-requires
 write-symbol-requires c κs = tt
 
+only-requires-2 : tie.Need-only-requires-2
+only-requires-2 c κs = tt
+
 same-length : tie.Need-same-length
 same-length c = search needs
 
@@ -77,19 +93,19 @@ same-length-2 c = search needs
 
 returns-3 : tie.Need-returns-3
 returns-3 c =
-    let w = c .before .before .before .before in
+    let w = c .before .before .before .before .before in
     let b = w .before .before .before .before in
     let e = b .before .before .before .before in
-    let a = e .before .before .before .before .before .args in
+    let a = e .before .before .before .before .before .before .args in
     let one : a .symbol < symbols (a .p .mode) =
     omega (arith, b .before .before .if2 .left, b .before .before .before .symbol-count .ensures .0) in
     let ok = passed e in
     let written = write-done (w .write-symbol .ensures)
     (record { firsts-long = ok .firsts-long; seconds-long = ok .seconds-long; in-grid = one; bits-long = lent b .long }) in
     record {
-      answer = sym (rw (← e .before .early .ensures, e .if1 .left, lt-ltb _ _ one));
+      answer = c .only2 .ensures ∙ sym (first-passed _ _ (zero e) ∙ rw (lt-ltb _ _ one));
       cells = λ _. symbol-cells (a .p) (a .«data» .now) _ (lent b .sent) (a .symbol) _ _ written;
-      kept = λ n. absurd (n refl);
+      kept = λ n. absurd (n (ap (λ (x : Answer). x .number) (c .only2 .ensures)));
     }
 
 pub send-symbol-spec : {M : Type 1} → statement M
@@ -99,6 +115,7 @@ send-symbol-spec =
     early-requires
     returns
     symbol-count-requires
+    only-requires
     returns-2
     sent-bits-requires
     slot-count-requires
@@ -106,6 +123,7 @@ send-symbol-spec =
     array-share-prefix-bits
     slice-aggregate-write-symbol
     write-symbol-requires
+    only-requires-2
     same-length
     same-length-2
     returns-3)

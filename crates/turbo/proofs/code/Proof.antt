@@ -26,14 +26,14 @@ mode-is c = lt-ltb (start (c .before) .args .mode) 2 (omega arith)
 
 -- a refusal writes nothing
 refusal : (m : ℕ) (d out : List ℕ) (a : Coding) (n : ℕ) → codingNumber a ≡ n → ¬ (n ≡ 0)
-    → n ≡ pick (not (isMode m)) 4 (pick (not (eqb (length d) 122 && eqb (length out) (packetBits m))) 6 0)
+    → n ≡ pick (not (isMode m)) 42 (pick (not (eqb (length d) 122 && eqb (length out) (packetBits m))) 6 0)
     → CodingRule m d out out a
 refusal m d out a n is ne e = record { answer = is ∙ e; bits = λ z. absurd (ne (sym is ∙ z)); kept = λ _. refl }
 
 returns : tie.Need-returns
 returns c =
     let a = start (c .before) .args in
-    refusal (a .mode) (now (a .«data»)) (now (a .out)) WrongMode 4 refl (λ e. omega arith) (rw (le-ltb (a .mode) 2 (omega arith)))
+    refusal (a .mode) (now (a .«data»)) (now (a .out)) WrongMode 42 refl (λ e. omega arith) (rw (le-ltb (a .mode) 2 (omega arith)))
 
 returns-2 : tie.Need-returns-2
 returns-2 c =

@@ -22,8 +22,11 @@ judged : (c : tie.After-judge)
     Judged (a .s .now) (a .p) (a .at) (a .i) (c .before .due .result) (c .judge .result)
 judged c = record { length-due = c .before .due .ensures .0; says = c .judge .ensures }
 
+only-requires : tie.Need-only-requires
+only-requires c κs = tt
+
 returns : tie.Need-returns
-returns c = taken-not (judged (c .before)) (c .if1 .taken)
+returns c = rw (c .only .ensures) (taken-not (judged (c .before .before)) (c .before .if1 .taken))
 
 add-next : tie.Need-add-next
 add-next c = omega (arith, value-room (judged (c .before)) (c .if1 .left))
@@ -71,6 +74,7 @@ take-spec =
     add-judge
     cast-judge
     judge-requires
+    only-requires
     returns
     add-next
     add-next-2
