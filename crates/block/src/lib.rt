@@ -1,9 +1,7 @@
 // What sending and receiving share: the numbers that come first, the sizes of a mode, and a whole block's scrambling.
 ghost use mathlib.Core.Path.{_≡_};
-ghost use mathlib.Core.Bool.{not, _&&_};
 ghost use Prim.Native.Nat.{_*_, _≤_};
-ghost use lib.Dec.{eqb};
-ghost use Rattle.rules.specs.Bits.{pick, row};
+ghost use Rattle.rules.specs.Bits.{row};
 ghost use Rattle.rules.specs.Slots.{packetBits, slots, slotBits, symbols};
 ghost use Rattle.rules.specs.Block as rule;
 ghost use Rattle.laws.specs.Holds.{Holds};
@@ -14,7 +12,7 @@ use rules::Profile;
 
 // 6, 7, the first that fits, else 0.
 fn lengths(k: u8, bytes: usize, firsts: usize, seconds: usize, cells: usize) -> u32
-    ensures { λ r. ⌜ r ≡ pick (not (eqb bytes (122 * k))) 6 (pick (not (eqb firsts cells && eqb seconds cells)) 7 0) ⌝ }
+    ensures { λ r. ⌜ r ≡ rule.lengths k bytes firsts seconds cells ⌝ }
 {
     if bytes != 122 * (k as usize) {
         return 6;

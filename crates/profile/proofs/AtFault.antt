@@ -5,10 +5,11 @@ use mathlib.Core.Bool.{Bool, true, false, _&&_, _||_}
 use mathlib.Core.Logic.{_⊎_, inl, inr, ⊎-elim, _↔_}
 use Prim.Native.Nat.{ℕ, _≤_}
 use native.Mathlib.Decide.{ℕ-discrete}
+use mir.Facts.{or-yes}
 use lib.Dec.{T, eqb, leb, eqb→eq}
 use lib.Ieee.Bits.{is-true}
 use lib.Ieee.Fits.{and-i, eq→eqb}
-use Rattle.rules.specs.Answers.{isNumber, namesField, isAnswer}
+use Rattle.rules.specs.Answers.{isNumber, namesField, isAnswer, hasRead}
 use Rattle.rules.specs.Demands.{Names}
 use Rattle.rules.specs.Profile.{fields, only, _or_, fault, inRange}
 use Rattle.rules.specs.declared.Answer.{Answer}
@@ -19,6 +20,12 @@ use Rattle.profile.proofs.Entries.{laws}
 -- zero names no field
 pub named-not-zero : (n : ℕ) → T (namesField n) → ¬ (n ≡ 0)
 named-not-zero n t z = subst (λ (k : ℕ). T (namesField k)) z t
+
+-- nor does a number at which cells are read
+pub named-unread : (n : ℕ) → T (namesField n) → ¬ T (hasRead n)
+named-unread n t h =
+    let named : (k : ℕ) → T (eqb n k) → T (namesField k) = λ k e. subst (λ (x : ℕ). T (namesField x)) (eqb→eq n k e) t in
+    ⊎-elim (λ u. ⊎-elim (named 0) (named 9) (or-yes (eqb n 0) (eqb n 9) u)) (named 10) (or-yes (eqb n 0 || eqb n 9) (eqb n 10) h)
 
 -- ---- a profile is in its range, or a field is named
 
@@ -71,13 +78,24 @@ pub or-number : (P : Profile) (n k : ℕ) → ¬ T (namesField k) → ((fault P 
 or-number P n k not =
     ⊎-elim
     (λ w.
-        let e = ap (λ (a : Answer). a .number) (or-fine P n (w .range)) in
-        ((λ z. (w .range, sym e ∙ z)), λ q. e ∙ q .1))
+    let e = ap (λ (a : Answer). a .number) (or-fine P n (w .range)) in
+    ((λ z. (w .range, sym e ∙ z)), λ q. e ∙ q .1))
     (λ w.
-        let e = ap (λ (a : Answer). a .number) (or-faulty P n (w .outside)) in (
-          (λ z. absurd (not (subst (λ (m : ℕ). T (namesField m)) (sym e ∙ z) (w .named)))),
-          λ q. absurd (w .outside (q .0)),
-        ))
+    let e = ap (λ (a : Answer). a .number) (or-faulty P n (w .outside)) in (
+      (λ z. absurd (not (subst (λ (m : ℕ). T (namesField m)) (sym e ∙ z) (w .named)))),
+      λ q. absurd (w .outside (q .0)),
+    ))
+    (by-fault P)
+
+-- at 0 nothing else is answered
+pub or-zero : (P : Profile) (n : ℕ) → (fault P or only n) .number ≡ 0 → fault P or only n ≡ only 0
+or-zero P n z = let q = or-number P n 0 (λ t. t) .0 z in or-fine P n (q .0) ∙ ap only (q .1)
+
+-- where the other number is none at which cells are read, this one isn't either
+pub or-unread : (P : Profile) (n : ℕ) → (¬ (n ≡ 0) → ¬ T (hasRead n))
+    → (let a = fault P or only n in ¬ (a .number ≡ 0) → ¬ T (hasRead (a .number)))
+or-unread P n unread =
+    ⊎-elim (λ w. rw (or-fine P n (w .range)) unread) (λ w ne. rw (or-faulty P n (w .outside)) (named-unread (fault P .number) (w .named)))
     (by-fault P)
 
 named-number : (n : ℕ) → T (namesField n) → T (isNumber n)

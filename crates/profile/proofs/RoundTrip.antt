@@ -1,13 +1,12 @@
 -- A profile is read and written by the same rules: what is written reads as the profile, and bytes that read well are those written of it.
 -- Every answer has a number of the table, a refused reading holds the blank profile, and what is written is bytes, as many as the mode says.
 use mathlib.Core.Path.{_≡_, refl, sym, ap, _∙_, subst}
-use mathlib.Core.Bool.{Bool, true, false, _||_}
+use mathlib.Core.Bool.{Bool, true, false}
 use mathlib.Core.List.{List, _++_}
 use mathlib.Core.Logic.{_↔_, ⊎-elim}
 use Prim.Native.Nat.{ℕ, _+_, _-_, _*_, _<_}
 use native.Mathlib.Omega.{arith}
-use lib.Dec.{T, eqb, eqb→eq}
-use mir.Facts.{or-yes}
+use lib.Dec.{T}
 use lib.ListN.{length, take, replicate}
 use lib.Seq.{take-append-seam}
 use Rattle.rules.specs.Answers.{namesField, isAnswer, hasRead}
@@ -20,7 +19,7 @@ use Rattle.rules.specs.declared.Profile.{Profile}
 use Rattle.rules.specs.declared.Reading.{Reading}
 use Rattle.rules.specs.declared.Writing.{Writing}
 use Rattle.profile.proofs.Words.{bytes-of, bytes-at}
-use Rattle.profile.proofs.AtFault.{fine, by-fault, named-not-zero, named-told, or-fine, or-faulty, fault-names}
+use Rattle.profile.proofs.AtFault.{fine, by-fault, named-not-zero, named-unread, named-told, or-fine, or-faulty, fault-names}
 use Rattle.profile.proofs.Table.{good-from, table-read, table-written, table-answer, table-refused, table-length, table-bytes}
 use Rattle.profile.proofs.Entries.{laws, ordered, whole}
 
@@ -103,12 +102,7 @@ read-number s =
 pub unread : (s : List ℕ) → T (hasRead (reading s .number)) → reading s .number ≡ 0
 unread s =
     table-answer (λ (r : Reading). T (hasRead (r .number)) → r .number ≡ 0)
-    (λ p t. refl) (λ t. absurd t) (λ t. absurd t) (λ t. absurd t) (λ t. absurd t) (λ a n t. absurd (apart (a .number) n t)) fields 0 blank s laws
-  where
-    apart : (n : ℕ) → T (namesField n) → T (hasRead n) → ⊥
-    apart n t h =
-        let named : (k : ℕ) → T (eqb n k) → T (namesField k) = λ k e. subst (λ (x : ℕ). T (namesField x)) (eqb→eq n k e) t in
-        ⊎-elim (λ u. ⊎-elim (named 0) (named 9) (or-yes (eqb n 0) (eqb n 9) u)) (named 10) (or-yes (eqb n 0 || eqb n 9) (eqb n 10) h)
+    (λ p t. refl) (λ t. absurd t) (λ t. absurd t) (λ t. absurd t) (λ t. absurd t) (λ a n t. absurd (named-unread (a .number) n t)) fields 0 blank s laws
 
 -- nor that of a state that no feeding leaves
 pub not-22 : (s : List ℕ) → ¬ (reading s .number ≡ 22)

@@ -15,7 +15,9 @@ use borrow.Author.Tests.{lt-ltb, le-ltb, le-leb, lt-leb}
 use Rattle.rules.specs.Bits.{pick, row}
 use Rattle.rules.specs.Slots.{symbols}
 use Rattle.rules.specs.Points.{zeroPart, decide}
-use Rattle.rules.specs.Profile.{inRange}
+use Rattle.rules.specs.Profile.{only, inRange}
+use Rattle.rules.specs.declared.Answer.{Answer}
+use Rattle.profile.proofs.AtFault.{or-zero}
 use Rattle.rules.specs.Answers.{hasRead}
 use Rattle.rules.specs.Block.{Answered, Delivered}
 use Rattle.rules.specs.Pieces.{newState, seen, cellIn, cellByte, isState, byteAt, fedCell, Put, FeedRule, Fed, LeftBy, asking, AskRule}
@@ -92,13 +94,13 @@ delivered-read (Delivered.tooMany many e) = tt
 delivered-read (Delivered.noCodeword few j l none e) = tt
 
 -- where the cells were read, no number came first
-pub read-first : {P : Profile} {marks n : ℕ} {v : ℕ → ℕ} {before after : List ℕ} {a : Receipt} → Answered P marks n v before after a
-    → (¬ (n ≡ 0) → ¬ T (hasRead n))
+pub read-first : {P : Profile} {marks : ℕ} {n : Answer} {v : ℕ → ℕ} {before after : List ℕ} {a : Receipt} → Answered P marks n v before after a
+    → (¬ (n .number ≡ 0) → ¬ T (hasRead (n .number)))
     → T (hasRead (a .number))
-    → n ≡ 0
-read-first {n = n} r first t = go (ℕ-discrete n 0)
+    → n .number ≡ 0
+read-first {n = n} r first t = go (ℕ-discrete (n .number) 0)
   where
-    go : Dec (n ≡ 0) → n ≡ 0
+    go : Dec (n .number ≡ 0) → n .number ≡ 0
     go (yes z) = z
     go (no ne) = absurd (first ne (subst (λ (b : Receipt). T (hasRead (b .number))) (r .refused ne .0) t))
 
@@ -129,7 +131,7 @@ module _ (P : Profile) where
         rest = λ c h l. new-row (2 + c);
       }
 
-  left-piece : (f s f' s' : List Float) (before after : List ℕ) → Left f s before → FeedRule P f' s' before after 0 → Left (f ++ f') (s ++ s') after
+  left-piece : (f s f' s' : List Float) (before after : List ℕ) → Left f s before → FeedRule P f' s' before after (only 0) → Left (f ++ f') (s ++ s') after
   left-piece f s f' s' before after w r =
       record {
         long = r .long ∙ w .long;
@@ -147,7 +149,7 @@ module _ (P : Profile) where
       put = r .taken refl
 
       t : T (inRange P) × T (isState grid before) × (length f' ≡ length s') × (seen before + length f' ≤ grid)
-      t = feeding-taken P before (length f') (length s') .0 (sym (r .answer))
+      t = feeding-taken P before (length f') (length s') .0 (sym (ap (λ (x : Answer). x .number) (r .answer)))
 
       -- past the seam of two lists
       past : (g g' : List Float) (c k : ℕ) → length g + k ≡ c → getD (g ++ g') c zeroPart ≡ getD g' k zeroPart
@@ -224,12 +226,13 @@ module _ (P : Profile) where
             ∙ sym (fed-after (seen newState) firsts seconds (cellIn newState) c (omega (arith, new-seen)) (omega (arith, new-seen, firsts-long))
             ∙ new-row (2 + c))
 
-    made-rule : T (inRange P) → row state 1 < 256 → FeedRule P firsts seconds newState state 0
+    made-rule : T (inRange P) → row state 1 < 256 → FeedRule P firsts seconds newState state (only 0)
     made-rule range low =
         record {
           answer =
-              sym (feeding-taken P newState (length firsts) (length seconds) .1
-              (range, left-state left-new, firsts-long ∙ sym seconds-long, omega (arith, new-seen, firsts-long)));
+              sym (or-zero P _
+              (feeding-taken P newState (length firsts) (length seconds) .1
+              (range, left-state left-new, firsts-long ∙ sym seconds-long, omega (arith, new-seen, firsts-long))));
           long = w .long ∙ sym new-long;
           taken = λ z.
               record { high = omega (arith, new-seen, firsts-long); low = omega (arith, new-seen, firsts-long); cells = made-cell };
@@ -249,25 +252,25 @@ module _ (P : Profile) where
     not-left : (T (inRange P) × ¬ T (isState grid state)) ↔ (T (inRange P) × ¬ LeftBy (FeedRule P) state)
     not-left = ((λ q. (q .0, λ l. q .1 (left-by (q .0) .1 l))), λ q. (q .0, λ t. q .1 (left-by (q .0) .0 t)))
 
-  pub feed-22 : (f s : List Float) (before after : List ℕ) (n : ℕ)
+  pub feed-22 : (f s : List Float) (before after : List ℕ) (a : Answer)
       → ((i : ℕ) → row before i < 256)
-      → FeedRule P f s before after n
-      → (n ≡ 22) ↔ (T (inRange P) × ¬ LeftBy (FeedRule P) before)
-  feed-22 f s before after n bytes r = rw (r .answer) (Iff·trans (feeding-22 P before (length f) (length s)) (not-left before bytes))
+      → FeedRule P f s before after a
+      → (a .number ≡ 22) ↔ (T (inRange P) × ¬ LeftBy (FeedRule P) before)
+  feed-22 f s before after a bytes r = rw (r .answer) (Iff·trans (feeding-22 P before (length f) (length s)) (not-left before bytes))
 
   -- a number at which no cell is read is answered exactly where it comes first
-  answered-as : (marks n q : ℕ) (v : ℕ → ℕ) (before after : List ℕ) (a : Receipt)
+  answered-as : (marks : ℕ) (n : Answer) (q : ℕ) (v : ℕ → ℕ) (before after : List ℕ) (a : Receipt)
       → ¬ T (hasRead q)
       → Answered P marks n v before after a
-      → (a .number ≡ q) ↔ (n ≡ q)
-  answered-as marks n q v before after a unread r = go (ℕ-discrete n 0)
+      → (a .number ≡ q) ↔ (n .number ≡ q)
+  answered-as marks n q v before after a unread r = go (ℕ-discrete (n .number) 0)
     where
-      go : Dec (n ≡ 0) → (a .number ≡ q) ↔ (n ≡ q)
+      go : Dec (n .number ≡ 0) → (a .number ≡ q) ↔ (n .number ≡ q)
       go (yes z) = (
         (λ e. absurd (unread (subst (λ (k : ℕ). T (hasRead k)) e (delivered-read (r .judged z .delivered))))),
         λ e. absurd (unread (subst (λ (k : ℕ). T (hasRead k)) (sym z ∙ e) tt)),
       )
-      go (no ne) = let is : a .number ≡ n = ap (λ (b : Receipt). b .number) (r .refused ne .0) in ((λ e. sym is ∙ e), λ e. is ∙ e)
+      go (no ne) = let is : a .number ≡ n .number = ap (λ (b : Receipt). b .number) (r .refused ne .0) in ((λ e. sym is ∙ e), λ e. is ∙ e)
 
   pub ask-22 : (marks : ℕ) (state before after : List ℕ) (a : Receipt)
       → ((i : ℕ) → row state i < 256)
@@ -279,16 +282,17 @@ module _ (P : Profile) where
 
   -- ---- what is taken, what is read, and that there is one answer
 
-  pub takes : (f s f' s' : List Float) (before after : List ℕ) (n : ℕ)
+  pub takes : (f s f' s' : List Float) (before after : List ℕ) (a : Answer)
       → T (inRange P)
       → Fed (FeedRule P) f s before
-      → FeedRule P f' s' before after n
-      → (n ≡ 0) ↔ ((length f' ≡ length s') × (length f + length f' ≤ grid))
-  takes f s f' s' before after n range h r =
+      → FeedRule P f' s' before after a
+      → (a .number ≡ 0) ↔ ((length f' ≡ length s') × (length f + length f' ≤ grid))
+  takes f s f' s' before after a range h r =
       let w = fed-left h in
+      let same = ap (λ (x : Answer). x .number) (r .answer) in
       let iff = feeding-taken P before (length f') (length s') in (
-        (λ e. let q = iff .0 (sym (r .answer) ∙ e) in (q .2, omega (arith, q .3))),
-        λ q. r .answer ∙ iff .1 (range, left-state w, q .0, omega (arith, q .1)),
+        (λ e. let q = iff .0 (sym same ∙ e) in (q .2, omega (arith, q .3))),
+        λ q. same ∙ iff .1 (range, left-state w, q .0, omega (arith, q .1)),
       )
 
   pub ask-reads : (marks : ℕ) (f s : List Float) (state before after : List ℕ) (a : Receipt)
@@ -300,33 +304,33 @@ module _ (P : Profile) where
     λ q. delivered-read (r .judged (iff .1 (q .0, left-state w, q .1, w .firsts ∙ q .2)) .delivered),
   )
     where
-      n : ℕ
+      n : Answer
       n = asking P state (length before)
 
       w : Left f s state
       w = fed-left h
 
-      iff : (n ≡ 0) ↔ (T (inRange P) × T (isState grid state) × (length before ≡ 122 * P .k) × (seen state ≡ grid))
+      iff : (n .number ≡ 0) ↔ (T (inRange P) × T (isState grid state) × (length before ≡ 122 * P .k) × (seen state ≡ grid))
       iff = asking-0 P state (length before)
 
-  pub one-feeding : (f s : List Float) (before after after' : List ℕ) (n m : ℕ)
-      → FeedRule P f s before after n
-      → FeedRule P f s before after' m
-      → (n ≡ m) × (after ≡ after')
-  one-feeding f s before after after' n m x y = (same, go (ℕ-discrete n 0))
+  pub one-feeding : (f s : List Float) (before after after' : List ℕ) (a b : Answer)
+      → FeedRule P f s before after a
+      → FeedRule P f s before after' b
+      → (a ≡ b) × (after ≡ after')
+  one-feeding f s before after after' a b x y = (x .answer ∙ sym (y .answer), go (ℕ-discrete (a .number) 0))
     where
-      same : n ≡ m
-      same = x .answer ∙ sym (y .answer)
+      same : a .number ≡ b .number
+      same = ap (λ (z : Answer). z .number) (x .answer ∙ sym (y .answer))
 
-      go : Dec (n ≡ 0) → after ≡ after'
+      go : Dec (a .number ≡ 0) → after ≡ after'
       go (no ne) = x .kept ne ∙ sym (y .kept (λ e. ne (same ∙ e)))
       go (yes e) = ext-getD 0 after after' (x .long ∙ sym (y .long)) each
         where
-          e' : m ≡ 0
+          e' : b .number ≡ 0
           e' = sym same ∙ e
 
           long : length before ≡ 28674
-          long = is-state grid before .0 (feeding-taken P before (length f) (length s) .0 (sym (x .answer) ∙ e) .1) .long
+          long = is-state grid before .0 (feeding-taken P before (length f) (length s) .0 (sym (ap (λ (z : Answer). z .number) (x .answer)) ∙ e) .1) .long
 
           each : (i : ℕ) → i < length after → row after i ≡ row after' i
           each zero h = x .taken e .high ∙ sym (y .taken e' .high)

@@ -64,6 +64,7 @@ module _ (P : Profile) (marks : ℕ) {before after : List ℕ} {a : Receipt} whe
       → Judged P marks w before after a
   judged-same v w same h =
       record {
+        place-is = h .place-is;
         reasons-long = h .reasons-long;
         reasons-are = λ p q. h .reasons-are p q ∙ reason-same (P .mode) (old p) (new p) (here p q) (marked marks p);
         lost-is = h .lost-is;
@@ -83,9 +84,11 @@ module _ (P : Profile) (marks : ℕ) {before after : List ℕ} {a : Receipt} whe
   pub weighed-judged : (v : ℕ → ℕ) (block : List ℕ)
       → WeighedTo 16 (P .mode) marks v (a .lost) (a .reasons) block
       → Delivered (P .k) (a .lost) (λ p j. column block j p) before after (a .number)
+      → a .place ≡ 0
       → Judged P marks v before after a
-  weighed-judged v block s d =
+  weighed-judged v block s d place =
       record {
+        place-is = place;
         reasons-long = s .reasons-are .long;
         reasons-are = reasons;
         lost-is = s .lost-is ∙ sym (mask-same 16 reasons);

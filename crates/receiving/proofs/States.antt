@@ -12,40 +12,38 @@ use lib.ListN.{length, List·getD-eq-default}
 use borrow.Author.Tests.{ltb-false, lt-ltb, le-ltb}
 use Rattle.rules.specs.Bits.{pick, row, everyBelow}
 use Rattle.rules.specs.Slots.{symbols}
-use Rattle.rules.specs.Profile.{inRange}
-use Rattle.rules.specs.Answers.{isNumber, hasRead}
-use Rattle.rules.specs.Pieces.{seen, cellIn, isCellByte, isState, stateBytes, feeding, asking}
+use Rattle.rules.specs.Profile.{only, _or_, fault, inRange}
+use Rattle.rules.specs.Answers.{isNumber, namesField, hasRead}
+use Rattle.rules.specs.Pieces.{seen, cellIn, isCellByte, isState, stateBytes, feedingNumber, feeding, askingNumber, asking}
 use Rattle.rules.specs.declared.Profile.{Profile}
 use Rattle.laws.specs.Every.{every-at, every-of}
 use Rattle.laws.specs.Parts.{part, part-long, part-at}
+use Rattle.profile.proofs.AtFault.{or-number, or-unread}
 use Rattle.receiving.specs.Steps.{Largest}
 
--- feeding and asking both: 4, 22, x, y, the first that fits, else 0
+-- feeding and asking both: 22, x, y, the first that fits, else 0
 module _ (x y : ℕ) where
-  abbrev first : Bool → Bool → Bool → Bool → ℕ
-  first a b c d = pick (not a) 4 (pick (not b) 22 (pick (not c) x (pick d y 0)))
+  abbrev first : Bool → Bool → Bool → ℕ
+  first b c d = pick (not b) 22 (pick (not c) x (pick d y 0))
 
-  first-0 : 0 < x → 0 < y → (a b c d : Bool) → (first a b c d ≡ 0) ↔ (T a × T b × T c × (d ≡ false))
-  first-0 hx hy true true true false = ((λ e. (tt, tt, tt, refl)), λ q. refl)
-  first-0 hx hy true true true true = ((λ e. absurd (omega arith)), λ q. absurd (subst T (q .3) tt))
-  first-0 hx hy true true false d = ((λ e. absurd (omega arith)), λ q. absurd (q .2))
-  first-0 hx hy true false c d = ((λ e. absurd (omega arith)), λ q. absurd (q .1))
-  first-0 hx hy false b c d = ((λ e. absurd (omega arith)), λ q. absurd (q .0))
+  first-0 : 0 < x → 0 < y → (b c d : Bool) → (first b c d ≡ 0) ↔ (T b × T c × (d ≡ false))
+  first-0 hx hy true true false = ((λ e. (tt, tt, refl)), λ q. refl)
+  first-0 hx hy true true true = ((λ e. absurd (omega arith)), λ q. absurd (subst T (q .2) tt))
+  first-0 hx hy true false d = ((λ e. absurd (omega arith)), λ q. absurd (q .1))
+  first-0 hx hy false c d = ((λ e. absurd (omega arith)), λ q. absurd (q .0))
 
-  first-22 : x < 22 → y < 22 → (a b c d : Bool) → (first a b c d ≡ 22) ↔ (T a × ¬ T b)
-  first-22 hx hy true false c d = ((λ e. (tt, λ t. t)), λ q. refl)
-  first-22 hx hy true true true false = ((λ e. absurd (omega arith)), λ q. absurd (q .1 tt))
-  first-22 hx hy true true true true = ((λ e. absurd (omega arith)), λ q. absurd (q .1 tt))
-  first-22 hx hy true true false d = ((λ e. absurd (omega arith)), λ q. absurd (q .1 tt))
-  first-22 hx hy false b c d = ((λ e. absurd (omega arith)), λ q. absurd (q .0))
+  first-22 : x < 22 → y < 22 → (b c d : Bool) → (first b c d ≡ 22) ↔ ¬ T b
+  first-22 hx hy false c d = ((λ e t. t), λ q. refl)
+  first-22 hx hy true true false = ((λ e. absurd (omega arith)), λ q. absurd (q tt))
+  first-22 hx hy true true true = ((λ e. absurd (omega arith)), λ q. absurd (q tt))
+  first-22 hx hy true false d = ((λ e. absurd (omega arith)), λ q. absurd (q tt))
 
-  -- what holds of each of the five numbers
-  first-each : (A : ℕ → Type 0) → A 4 → A 22 → A x → A y → A 0 → (a b c d : Bool) → A (first a b c d)
-  first-each A p q r s z true true true false = z
-  first-each A p q r s z true true true true = s
-  first-each A p q r s z true true false d = r
-  first-each A p q r s z true false c d = q
-  first-each A p q r s z false b c d = p
+  -- what holds of each of the four numbers
+  first-each : (A : ℕ → Type 0) → A 22 → A x → A y → A 0 → (b c d : Bool) → A (first b c d)
+  first-each A q r s z true true false = z
+  first-each A q r s z true true true = s
+  first-each A q r s z true false d = r
+  first-each A q r s z false c d = q
 
 -- the largest grid has room in the state
 pub grid-fits : (m : ℕ) → 4096 * symbols m ≤ 28672
@@ -174,41 +172,63 @@ module _ (P : Profile) where
   abbrev grid : ℕ
   grid = 4096 * symbols (P .mode)
 
+  -- where 22 says something of the number after the profile's, it says so of a profile in range
+  first-fault : {A : Type 0} (n : ℕ) → (n ≡ 22) ↔ A → ((fault P or only n) .number ≡ 22) ↔ (T (inRange P) × A)
+  first-fault n iff =
+      let first = or-number P n 22 (λ t. t) in
+      ((λ e. let p = first .0 e in (p .0, iff .0 (p .1))), λ q. first .1 (q .0, iff .1 (q .1)))
+
   module _ (state : List ℕ) (n m : ℕ) where
-    pub feeding-taken : (feeding P state n m ≡ 0) ↔ (T (inRange P) × T (isState grid state) × (n ≡ m) × (seen state + n ≤ grid))
+    -- the numbers after the profile's
+    abbrev fed : ℕ
+    fed = feedingNumber (P .mode) state n m
+
+    pub feeding-taken : (feeding P state n m .number ≡ 0) ↔ (T (inRange P) × T (isState grid state) × (n ≡ m) × (seen state + n ≤ grid))
     feeding-taken =
-        let iff = first-0 7 16 (lit< tt) (lit< tt) (inRange P) (isState grid state) (eqb n m) (ltb grid (seen state + n)) in (
-          (λ e. let w = iff .0 e in (w .0, w .1, eqb→eq n m (w .2), ltb-false grid (seen state + n) (w .3))),
-          λ q. iff .1 (q .0, q .1, eq→eqb (q .2), le-ltb grid (seen state + n) (q .3)),
+        let first = or-number P fed 0 (λ t. t) in
+        let iff = first-0 7 16 (lit< tt) (lit< tt) (isState grid state) (eqb n m) (ltb grid (seen state + n)) in (
+          (λ e. let p = first .0 e in let w = iff .0 (p .1) in (p .0, w .0, eqb→eq n m (w .1), ltb-false grid (seen state + n) (w .2))),
+          λ q. first .1 (q .0, iff .1 (q .1, eq→eqb (q .2), le-ltb grid (seen state + n) (q .3))),
         )
 
-    pub feeding-22 : (feeding P state n m ≡ 22) ↔ (T (inRange P) × ¬ T (isState grid state))
-    feeding-22 = first-22 7 16 (lit< tt) (lit< tt) (inRange P) (isState grid state) (eqb n m) (ltb grid (seen state + n))
+    pub feeding-22 : (feeding P state n m .number ≡ 22) ↔ (T (inRange P) × ¬ T (isState grid state))
+    feeding-22 = first-fault fed (first-22 7 16 (lit< tt) (lit< tt) (isState grid state) (eqb n m) (ltb grid (seen state + n)))
 
-    pub feeding-number : T (isNumber (feeding P state n m))
-    feeding-number =
-        first-each 7 16 (λ k. T (isNumber k)) tt tt tt tt tt (inRange P) (isState grid state) (eqb n m) (ltb grid (seen state + n))
+    pub feeding-number : T (isNumber fed)
+    feeding-number = first-each 7 16 (λ k. T (isNumber k)) tt tt tt tt (isState grid state) (eqb n m) (ltb grid (seen state + n))
+
+    pub feeding-names : ¬ T (namesField fed)
+    feeding-names = first-each 7 16 (λ k. ¬ T (namesField k)) (λ t. t) (λ t. t) (λ t. t) (λ t. t) (isState grid state) (eqb n m) (ltb grid (seen state + n))
 
   module _ (state : List ℕ) (bytes : ℕ) where
-    pub asking-0 : (asking P state bytes ≡ 0) ↔ (T (inRange P) × T (isState grid state) × (bytes ≡ 122 * P .k) × (seen state ≡ grid))
+    abbrev asked : ℕ
+    asked = askingNumber (P .mode) (P .k) state bytes
+
+    pub asking-0 : (asking P state bytes .number ≡ 0) ↔ (T (inRange P) × T (isState grid state) × (bytes ≡ 122 * P .k) × (seen state ≡ grid))
     asking-0 =
-        let iff = first-0 6 17 (lit< tt) (lit< tt) (inRange P) (isState grid state) (eqb bytes (122 * P .k)) (ltb (seen state) grid) in (
+        let first = or-number P asked 0 (λ t. t) in
+        let iff = first-0 6 17 (lit< tt) (lit< tt) (isState grid state) (eqb bytes (122 * P .k)) (ltb (seen state) grid) in (
           (λ e.
-              let w = iff .0 e in
-              let most : seen state ≤ grid = is-state grid state .0 (w .1) .within in
-              let least : grid ≤ seen state = ltb-false (seen state) grid (w .3) in
-              (w .0, w .1, eqb→eq _ _ (w .2), omega arith)),
-          λ q. iff .1 (q .0, q .1, eq→eqb (q .2), le-ltb (seen state) grid (omega (arith, q .3))),
+              let p = first .0 e in
+              let w = iff .0 (p .1) in
+              let most : seen state ≤ grid = is-state grid state .0 (w .0) .within in
+              let least : grid ≤ seen state = ltb-false (seen state) grid (w .2) in
+              (p .0, w .0, eqb→eq _ _ (w .1), omega arith)),
+          λ q. first .1 (q .0, iff .1 (q .1, eq→eqb (q .2), le-ltb (seen state) grid (omega (arith, q .3)))),
         )
 
-    pub asking-22 : (asking P state bytes ≡ 22) ↔ (T (inRange P) × ¬ T (isState grid state))
-    asking-22 = first-22 6 17 (lit< tt) (lit< tt) (inRange P) (isState grid state) (eqb bytes (122 * P .k)) (ltb (seen state) grid)
+    pub asking-22 : (asking P state bytes .number ≡ 22) ↔ (T (inRange P) × ¬ T (isState grid state))
+    asking-22 = first-fault asked (first-22 6 17 (lit< tt) (lit< tt) (isState grid state) (eqb bytes (122 * P .k)) (ltb (seen state) grid))
 
-    pub asking-number : T (isNumber (asking P state bytes))
-    asking-number =
-        first-each 6 17 (λ k. T (isNumber k)) tt tt tt tt tt (inRange P) (isState grid state) (eqb bytes (122 * P .k)) (ltb (seen state) grid)
+    pub asking-number : T (isNumber asked)
+    asking-number = first-each 6 17 (λ k. T (isNumber k)) tt tt tt tt (isState grid state) (eqb bytes (122 * P .k)) (ltb (seen state) grid)
 
-    pub asking-not-read : ¬ (asking P state bytes ≡ 0) → ¬ T (hasRead (asking P state bytes))
+    pub asking-names : ¬ T (namesField asked)
+    asking-names =
+        first-each 6 17 (λ k. ¬ T (namesField k)) (λ t. t) (λ t. t) (λ t. t) (λ t. t) (isState grid state) (eqb bytes (122 * P .k)) (ltb (seen state) grid)
+
+    pub asking-not-read : ¬ (asking P state bytes .number ≡ 0) → ¬ T (hasRead (asking P state bytes .number))
     asking-not-read =
-        first-each 6 17 (λ k. ¬ (k ≡ 0) → ¬ T (hasRead k)) (λ n t. t) (λ n t. t) (λ n t. t) (λ n t. t) (λ n t. n refl)
-        (inRange P) (isState grid state) (eqb bytes (122 * P .k)) (ltb (seen state) grid)
+        or-unread P asked
+        (first-each 6 17 (λ k. ¬ (k ≡ 0) → ¬ T (hasRead k)) (λ n t. t) (λ n t. t) (λ n t. t) (λ n t. n refl)
+        (isState grid state) (eqb bytes (122 * P .k)) (ltb (seen state) grid))

@@ -49,6 +49,7 @@ fn judge(p: Profile, marks: u16, bits: [u8; 48000], data: &mut [u8]) -> Receipt
     let reasons = v.reasons;
     Receipt {
         number: deliver(p.k, v.lost, block, data),
+        place: 0,
         lost: v.lost,
         reasons,
     }

@@ -9,15 +9,17 @@ mod pieces;
 
 use block::early;
 use block::symbol_count;
+use rules::Answer;
 use rules::Profile;
 use rules::Receipt;
 
-// A refusal: its number, and nothing else.
-pub fn silence(number: u32) -> Receipt
-    ensures { λ r. ⌜ r ≡ rule.silence number ⌝ }
+// A refusal, and nothing else.
+pub fn silence(a: Answer) -> Receipt
+    ensures { λ r. ⌜ r ≡ rule.silence a ⌝ }
 {
     Receipt {
-        number,
+        number: a.number,
+        place: a.place,
         lost: 0,
         reasons: [0u8; 16],
     }
@@ -28,9 +30,9 @@ pub fn receive(p: Profile, marks: u16, firsts: &[f32], seconds: &[f32], data: &m
     ensures { λ r. ⌜ ReceiveRule p marks (now (firsts .entry)) (now (seconds .entry)) (now («data» .entry)) (now («data» .exit)) r ⌝ }
 {
     let n = 4096 * symbol_count(p.mode);
-    let number = early(p, data.len(), firsts.len(), seconds.len(), n);
-    if number != 0 {
-        return silence(number);
+    let a = early(p, data.len(), firsts.len(), seconds.len(), n);
+    if a.number != 0 {
+        return silence(a);
     }
     let mut decided = [0u8; 28672];
     cells::decide_cells(firsts, seconds, &mut decided[..n]);
@@ -38,23 +40,23 @@ pub fn receive(p: Profile, marks: u16, firsts: &[f32], seconds: &[f32], data: &m
 }
 
 // Takes the next piece of a grid into the state.
-pub fn feed(p: Profile, state: &mut [u8], firsts: &[f32], seconds: &[f32]) -> u32
+pub fn feed(p: Profile, state: &mut [u8], firsts: &[f32], seconds: &[f32]) -> Answer
     ensures { λ r. ⌜ FeedRule p (now (firsts .entry)) (now (seconds .entry)) (now (state .entry)) (now (state .exit)) r ⌝ }
 {
-    let number = pieces::feeding(p, state, firsts.len(), seconds.len());
-    if number == 0 {
+    let a = pieces::feeding(p, state, firsts.len(), seconds.len());
+    if a.number == 0 {
         pieces::put(state, firsts, seconds);
     }
-    number
+    a
 }
 
 // Receives what was fed, once the last cell has come. The state stays, and can be asked again.
 pub fn ask(p: Profile, marks: u16, state: &[u8], data: &mut [u8]) -> Receipt
     ensures { λ r. ⌜ AskRule p marks (now (state .entry)) (now («data» .entry)) (now («data» .exit)) r ⌝ }
 {
-    let number = pieces::asking(p, state, data.len());
-    if number != 0 {
-        return silence(number);
+    let a = pieces::asking(p, state, data.len());
+    if a.number != 0 {
+        return silence(a);
     }
     let end = 2 + 4096 * symbol_count(p.mode);
     judging::judge_cells(p, marks, &state[2..end], data)

@@ -8,6 +8,8 @@ ghost use Rattle.rules.specs.Pieces as rule;
 ghost use Rattle.rules.specs.Pieces.{stateBytes, isState, Put};
 ghost use Rattle.receiving.specs.Steps.{Largest};
 use block::symbol_count;
+use profile::only;
+use rules::Answer;
 use rules::Profile;
 
 // Two bytes as a number, high byte first.
@@ -62,42 +64,58 @@ fn is_state(mode: u8, state: &[u8]) -> bool
     true
 }
 
-// 4, 22, 7, 16, the first that fits, else 0.
-pub(crate) fn feeding(p: Profile, state: &[u8], firsts: usize, seconds: usize) -> u32
-    ensures { λ r. ⌜ r ≡ rule.feeding p (now (state .entry)) firsts seconds ⌝ }
+// 22, 7, 16, the first that fits, else 0.
+fn feeding_number(mode: u8, state: &[u8], firsts: usize, seconds: usize) -> u32
+    ensures { λ r. ⌜ r ≡ rule.feedingNumber mode (now (state .entry)) firsts seconds ⌝ }
 {
-    if !profile::in_range(p) {
-        return 4;
-    }
-    if !is_state(p.mode, state) {
+    if !is_state(mode, state) {
         return 22;
     }
     if firsts != seconds {
         return 7;
     }
-    if firsts > 4096 * symbol_count(p.mode) - seen(state) {
+    if firsts > 4096 * symbol_count(mode) - seen(state) {
         return 16;
     }
     0
 }
 
-// 4, 22, 6, 17, the first that fits, else 0.
-pub(crate) fn asking(p: Profile, state: &[u8], bytes: usize) -> u32
-    ensures { λ r. ⌜ r ≡ rule.asking p (now (state .entry)) bytes ⌝ }
+// What is at fault in the profile, 22, 7, 16, the first that fits, else 0.
+pub(crate) fn feeding(p: Profile, state: &[u8], firsts: usize, seconds: usize) -> Answer
+    ensures { λ r. ⌜ r ≡ rule.feeding p (now (state .entry)) firsts seconds ⌝ }
 {
-    if !profile::in_range(p) {
-        return 4;
+    let a = profile::fault(p);
+    if a.number != 0 {
+        return a;
     }
-    if !is_state(p.mode, state) {
+    only(feeding_number(p.mode, state, firsts, seconds))
+}
+
+// 22, 6, 17, the first that fits, else 0.
+fn asking_number(mode: u8, k: u8, state: &[u8], bytes: usize) -> u32
+    ensures { λ r. ⌜ r ≡ rule.askingNumber mode k (now (state .entry)) bytes ⌝ }
+{
+    if !is_state(mode, state) {
         return 22;
     }
-    if bytes != 122 * (p.k as usize) {
+    if bytes != 122 * (k as usize) {
         return 6;
     }
-    if seen(state) < 4096 * symbol_count(p.mode) {
+    if seen(state) < 4096 * symbol_count(mode) {
         return 17;
     }
     0
+}
+
+// What is at fault in the profile, 22, 6, 17, the first that fits, else 0.
+pub(crate) fn asking(p: Profile, state: &[u8], bytes: usize) -> Answer
+    ensures { λ r. ⌜ r ≡ rule.asking p (now (state .entry)) bytes ⌝ }
+{
+    let a = profile::fault(p);
+    if a.number != 0 {
+        return a;
+    }
+    only(asking_number(p.mode, p.k, state, bytes))
 }
 
 // Puts the bytes of a piece's cells after those that have come, and counts them.

@@ -55,10 +55,13 @@ pub record Cells (P : Profile) (d : List ℕ) (from n : ℕ) (firsts seconds : L
   pub firsts-are : (i : ℕ) → i < 4096 * n → getD firsts i zeroPart ≡ firstPart (sentCell P d (from + i / 4096) (i % 4096))
   pub seconds-are : (i : ℕ) → i < 4096 * n → getD seconds i zeroPart ≡ secondPart (sentCell P d (from + i / 4096) (i % 4096))
 
+-- 6, 7, the first that fits; else 0
+abbrev pub lengths : ℕ → ℕ → ℕ → ℕ → ℕ → ℕ
+lengths k bytes firsts seconds cells = pick (not (eqb bytes (122 * k))) 6 (pick (not (eqb firsts cells && eqb seconds cells)) 7 0)
+
 -- what is at fault in the profile, 6, 7, the first that fits; else 0
 abbrev pub early : Profile → ℕ → ℕ → ℕ → ℕ → Answer
-early P bytes firsts seconds cells =
-    fault P or only (pick (not (eqb bytes (122 * P .k))) 6 (pick (not (eqb firsts cells && eqb seconds cells)) 7 0))
+early P bytes firsts seconds cells = fault P or only (lengths (P .k) bytes firsts seconds cells)
 
 -- what sending answers, and what the lists then hold
 pub record SendRule (P : Profile) (d : List ℕ) (firsts seconds firsts' seconds' : List Float) (a : Answer) : Type 0 where

@@ -63,13 +63,15 @@ keptBit cells t i = decisionIn (cells (gridCell t (i / 2))) i
 
 -- ---- feeding
 
+-- 22, 7, 16, the first that fits; else 0
+abbrev pub feedingNumber : ℕ → List ℕ → ℕ → ℕ → ℕ
+feedingNumber m state firsts seconds =
+    pick (not (isState (4096 * symbols m) state)) 22
+    (pick (not (eqb firsts seconds)) 7 (pick (ltb (4096 * symbols m) (seen state + firsts)) 16 0))
+
 -- what is at fault in the profile, 22, 7, 16, the first that fits; else 0
 abbrev pub feeding : Profile → List ℕ → ℕ → ℕ → Answer
-feeding P state firsts seconds =
-    fault P
-    or only
-    (pick (not (isState (4096 * symbols (P .mode)) state)) 22
-    (pick (not (eqb firsts seconds)) 7 (pick (ltb (4096 * symbols (P .mode)) (seen state + firsts)) 16 0)))
+feeding P state firsts seconds = fault P or only (feedingNumber (P .mode) state firsts seconds)
 
 -- the byte of cell c once a piece has come after n cells: the piece's own, and else what it was
 abbrev pub fedCell : ℕ → List Float → List Float → (ℕ → ℕ) → ℕ → ℕ
@@ -103,13 +105,15 @@ LeftBy Feed state = (f : List Float) × (s : List Float) × Fed Feed f s state
 
 -- ---- asking
 
+-- 22, 6, 17, the first that fits; else 0
+abbrev pub askingNumber : ℕ → ℕ → List ℕ → ℕ → ℕ
+askingNumber m k state bytes =
+    pick (not (isState (4096 * symbols m) state)) 22
+    (pick (not (eqb bytes (122 * k))) 6 (pick (ltb (seen state) (4096 * symbols m)) 17 0))
+
 -- what is at fault in the profile, 22, 6, 17, the first that fits; else 0
 abbrev pub asking : Profile → List ℕ → ℕ → Answer
-asking P state bytes =
-    fault P
-    or only
-    (pick (not (isState (4096 * symbols (P .mode)) state)) 22
-    (pick (not (eqb bytes (122 * P .k))) 6 (pick (ltb (seen state) (4096 * symbols (P .mode))) 17 0)))
+asking P state bytes = fault P or only (askingNumber (P .mode) (P .k) state bytes)
 
 -- then the judgement of the bits that were kept
 abbrev pub AskRule : Profile → ℕ → List ℕ → List ℕ → List ℕ → Receipt → Type 0

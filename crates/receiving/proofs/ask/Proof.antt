@@ -1,5 +1,5 @@
 -- A number before any judgement, or the judgement of what the state keeps.
-use mathlib.Core.Path.{_≡_, refl, sym, _∙_}
+use mathlib.Core.Path.{_≡_, refl, sym, _∙_, ap}
 use Prim.Native.Nat.{_+_, _*_}
 use native.Mathlib.Omega.{arith}
 use lib.Dec.{T}
@@ -9,7 +9,8 @@ use Rattle.rules.specs.Bits.{row}
 use Rattle.rules.specs.Slots.{symbols}
 use Rattle.rules.specs.Profile.{inRange}
 use Rattle.rules.specs.Block.{understood, inBlock}
-use Rattle.rules.specs.Pieces.{isState, seen, cellIn, keptBit}
+use Rattle.rules.specs.Pieces.{isState, seen, cellIn, keptBit, asking}
+use Rattle.rules.specs.declared.Answer.{Answer}
 use Rattle.laws.specs.Parts.{part, part-long, part-at}
 use Rattle.receiving.proofs.Numbers.{answered-refused, answered-judged}
 use Rattle.receiving.proofs.States.{is-state, asking-0}
@@ -25,19 +26,23 @@ silence-requires c κs = search needs
 
 returns : tie.Need-returns
 returns c =
-    let e = c .before .before in
+    let e = c .before .before .before in
     let a = e .before .before .before .args in
     answered-refused (a .p) (a .marks) _ (understood (a .p) (inBlock (a .p .mode) (keptBit (cellIn (a .state .now))))) (a .«data» .now) (a .«data» .now)
     (c .silence .result) (e .asking .result) (e .asking .ensures) (c .before .if1 .taken) (c .silence .ensures) refl
 
+-- the first answer is 0
+zero : (c : tie.Else1) → let a = c .before .before .before .before .before .args in asking (a .p) (a .state .now) (length (a .«data» .now)) .number ≡ 0
+zero c = sym (ap (λ (x : Answer). x .number) (c .before .before .asking .ensures)) ∙ c .if1 .left
+
 -- the last cell has come
 passed : (c : tie.Else1)
-    → let a = c .before .before .before .before .args in
+    → let a = c .before .before .before .before .before .args in
     T (inRange (a .p)) × T (isState (4096 * symbols (a .p .mode)) (a .state .now)) × (length (a .«data» .now) ≡ 122 * a .p .k)
     × (seen (a .state .now) ≡ 4096 * symbols (a .p .mode))
 passed c =
-    let a = c .before .before .before .before .args in
-    asking-0 (a .p) (a .state .now) (length (a .«data» .now)) .0 (sym (c .before .asking .ensures) ∙ c .if1 .left)
+    let a = c .before .before .before .before .before .args in
+    asking-0 (a .p) (a .state .now) (length (a .«data» .now)) .0 (zero c)
 
 symbol-count-requires : tie.Need-symbol-count-requires
 symbol-count-requires c κs = search needs
@@ -56,12 +61,12 @@ part-judge-cells-start c = search needs
 
 -- the bytes of the grid's cells
 kept-long : (c : tie.After-symbol-count)
-    → let a = c .before .before .before .before .before .args in
+    → let a = c .before .before .before .before .before .before .args in
     length (part 2 (2 + 4096 * c .symbol-count .result) (a .state .now)) ≡ 4096 * symbols (a .p .mode)
 kept-long c =
     let n = c .symbol-count in
     let long = is-state _ _ .0 (passed (c .before) .1) .long in
-    part-long 2 (2 + 4096 * n .result) (c .before .before .before .before .before .args .state .now) (omega arith) (omega (arith, long, n .ensures .1))
+    part-long 2 (2 + 4096 * n .result) (c .before .before .before .before .before .before .args .state .now) (omega arith) (omega (arith, long, n .ensures .1))
     ∙ omega (arith, n .ensures .0)
 
 part-judge-cells-end : tie.Need-part-judge-cells-end
@@ -80,11 +85,11 @@ returns-2 c =
     let j = c .before .before in
     let n = j .before .before .before in
     let e = n .before in
-    let a = e .before .before .before .before .args in
+    let a = e .before .before .before .before .before .args in
     let long = is-state _ _ .0 (passed e .1) .long in
     let state = a .state .now in
     answered-judged (a .p) (a .marks) _ (understood (a .p) (inBlock (a .p .mode) (keptBit (cellIn state)))) (a .«data» .now) _ (j .judge-cells .result)
-    (sym (e .before .asking .ensures) ∙ e .if1 .left)
+    (zero e)
     (cells-judged (a .p) (a .marks) (row (part 2 (2 + 4096 * n .symbol-count .result) state)) (cellIn state)
     (λ c h.
     part-at 2 (2 + 4096 * n .symbol-count .result) state (omega arith) (omega (arith, long, n .symbol-count .ensures .1)) c 0

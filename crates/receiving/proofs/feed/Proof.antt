@@ -1,5 +1,5 @@
 -- A number, and where it is 0 the piece is put in.
-use mathlib.Core.Path.{_≡_, refl, sym, _∙_}
+use mathlib.Core.Path.{_≡_, refl, sym, _∙_, ap}
 use Prim.Native.Nat.{_+_, _*_, _≤_}
 use native.Mathlib.Omega.{arith}
 use lib.Dec.{T}
@@ -8,6 +8,7 @@ use borrow.Author.Needs.{needs}
 use Rattle.rules.specs.Slots.{symbols}
 use Rattle.rules.specs.Profile.{inRange}
 use Rattle.rules.specs.Pieces.{isState, seen}
+use Rattle.rules.specs.declared.Answer.{Answer}
 use Rattle.receiving.proofs.States.{is-state, grid-fits, feeding-taken}
 use Rattle.receiving.proofs.feed.Statement.{statement}
 use Rattle.receiving.proofs.feed.Tie as tie
@@ -17,17 +18,17 @@ feeding-requires c κs = search needs
 
 -- the piece is taken
 taken : (c : tie.Then1)
-    → let a = c .before .before .before .before .before .before .args in
+    → let a = c .before .before .before .before .before .before .before .args in
     T (inRange (a .p)) × T (isState (4096 * symbols (a .p .mode)) (a .state .now)) × (length (a .firsts .now) ≡ length (a .seconds .now))
     × (seen (a .state .now) + length (a .firsts .now) ≤ 4096 * symbols (a .p .mode))
 taken c =
-    let a = c .before .before .before .before .before .before .args in
-    let done : c .before .feeding .result ≡ 0 = omega arith in
-    feeding-taken (a .p) (a .state .now) (length (a .firsts .now)) (length (a .seconds .now)) .0 (sym (c .before .feeding .ensures) ∙ done)
+    let a = c .before .before .before .before .before .before .before .args in
+    feeding-taken (a .p) (a .state .now) (length (a .firsts .now)) (length (a .seconds .now)) .0
+    (sym (ap (λ (x : Answer). x .number) (c .before .before .feeding .ensures)) ∙ c .if1 .taken)
 
 put-requires : tie.Need-put-requires
 put-requires c κs =
-    let a = c .before .before .before .before .before .before .before .args in
+    let a = c .before .before .before .before .before .before .before .before .args in
     let t = taken (c .before) in
     (is-state _ _ .0 (t .1) .long, t .2, omega (arith, t .3, grid-fits (a .p .mode)))
 
@@ -36,15 +37,13 @@ same-length c = search needs
 
 returns : tie.Need-returns
 returns c =
-    let n = c .before .before .before .before .before in
-    let e = n .feeding .ensures in
-    let done : n .feeding .result ≡ 0 = omega arith in
+    let t = c .before .before .before .before in
     let p = c .before .before .put in
     record {
-      answer = e;
+      answer = t .before .before .feeding .ensures;
       long = p .kept .0;
       taken = λ _. p .ensures;
-      kept = λ ne. absurd (ne done);
+      kept = λ ne. absurd (ne (t .if1 .taken));
     }
 
 same-length-2 : tie.Need-same-length-2
@@ -53,7 +52,7 @@ same-length-2 c = search needs
 returns-2 : tie.Need-returns-2
 returns-2 c =
     record {
-      answer = c .before .feeding .ensures;
+      answer = c .before .before .feeding .ensures;
       long = refl;
       taken = λ z. absurd (c .if1 .left z);
       kept = λ _. refl;

@@ -1,4 +1,5 @@
 -- The bits are unscrambled, the packets judged, and the outer code has the last word.
+use mathlib.Core.Path.{refl}
 use borrow.Author.Needs.{needs}
 use Rattle.rules.specs.Bits.{row}
 use Rattle.block.proofs.Ranges.{ranges}
@@ -27,7 +28,7 @@ returns c =
     let s = b .before .before .before in
     scrambled-judged (s .args .p) (s .args .marks) (s .args .bits) (plain .result) (plain .ensures)
     (weighed-judged (s .args .p) (s .args .marks) (row (plain .result)) (b .judge-block .result .block) (b .judge-block .ensures)
-    (c .before .before .deliver .ensures))
+    (c .before .before .deliver .ensures) refl)
 
 pub judge-spec : {M : Type 1} → statement M
 judge-spec =

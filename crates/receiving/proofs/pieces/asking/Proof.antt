@@ -1,80 +1,26 @@
--- The tests in their order.
-use mathlib.Core.Path.{_≡_, sym, _∙_}
-use mathlib.Core.Bool.{true}
-use Prim.Native.Nat.{_*_, _<_, _≤_}
-use native.Mathlib.Omega.{arith}
-use borrow.Author.Needs.{needs}
-use borrow.Author.Tests.{not-true, not-false, eq-eqb, ne-eqb, lt-ltb, le-ltb}
-use Rattle.rules.specs.Slots.{symbols}
-use Rattle.rules.specs.Profile.{inRange}
-use Rattle.rules.specs.Pieces.{isState, seen}
-use Rattle.receiving.proofs.States.{tells}
+-- What is at fault comes first, then the number of the question.
+use mathlib.Core.Path.{ap, _∙_}
+use Rattle.rules.specs.Profile.{only}
+use Rattle.profile.proofs.AtFault.{answer-fault, answer-number}
 use Rattle.receiving.proofs.pieces.asking.Statement.{statement}
 use Rattle.receiving.proofs.pieces.asking.Tie as tie
 
-in-range-requires : tie.Need-in-range-requires
-in-range-requires c κs = search needs
-
-in-range : (c : tie.Else1) → inRange (c .before .before .before .args .p) ≡ true
-in-range c = sym (c .before .in-range .ensures) ∙ not-false _ (c .if1 .left)
-
-good : (c : tie.Else2) → let a = c .before .before .before .before .before .args in isState (4096 * symbols (a .p .mode)) (a .state .now) ≡ true
-good c = sym (c .before .is-state .ensures) ∙ not-false _ (c .if2 .left)
+fault-requires : tie.Need-fault-requires
+fault-requires c κs = tt
 
 returns : tie.Need-returns
-returns c = rw (sym (c .before .in-range .ensures) ∙ not-true _ (c .if1 .taken))
+returns c = answer-fault _ _ (c .before .before .fault .ensures) (c .if1 .taken)
 
-is-state-requires : tie.Need-is-state-requires
-is-state-requires c κs = search needs
+asking-number-requires : tie.Need-asking-number-requires
+asking-number-requires c κs = tt
+
+only-requires : tie.Need-only-requires
+only-requires c κs = tt
 
 returns-2 : tie.Need-returns-2
-returns-2 c = rw (in-range (c .before .before), sym (c .before .is-state .ensures) ∙ not-true _ (c .if2 .taken))
-
-cast-if3 : tie.Need-cast-if3
-cast-if3 c = search needs
-
-mul-if3 : tie.Need-mul-if3
-mul-if3 c = search needs
-
-returns-3 : tie.Need-returns-3
-returns-3 c = let e = c .before .before in rw (in-range (e .before .before), good e, ne-eqb _ _ (c .if3 .taken))
-
-seen-requires : tie.Need-seen-requires
-seen-requires c κs = omega (arith, tells _ _ (good (c .before .before)) .long)
-
-symbol-count-requires : tie.Need-symbol-count-requires
-symbol-count-requires c κs = search needs
-
-mul-if4 : tie.Need-mul-if4
-mul-if4 c = search needs
-
-returns-4 : tie.Need-returns-4
-returns-4 c =
-    let e = c .before .before .before .before .before in
-    let a = e .before .before .before .before .before .args in
-    let early : seen (a .state .now) < 4096 * symbols (a .p .mode) = omega arith in
-    rw (in-range (e .before .before), good e, eq-eqb _ _ (c .before .before .before .if3 .left), lt-ltb _ _ early)
-
-returns-5 : tie.Need-returns-5
-returns-5 c =
-    let e = c .before .before .before .before .before in
-    let a = e .before .before .before .before .before .args in
-    let all : 4096 * symbols (a .p .mode) ≤ seen (a .state .now) = omega arith in
-    rw (in-range (e .before .before), good e, eq-eqb _ _ (c .before .before .before .if3 .left), le-ltb _ _ all)
+returns-2 c =
+    let e = c .before .before in
+    answer-number _ _ (e .before .before .fault .ensures) (e .if1 .left) _ (c .only .ensures ∙ ap only (c .before .asking-number .ensures))
 
 pub asking-spec : {M : Type 1} → statement M
-asking-spec =
-    tie.close
-    (tie.spec
-    in-range-requires
-    returns
-    is-state-requires
-    returns-2
-    cast-if3
-    mul-if3
-    returns-3
-    seen-requires
-    symbol-count-requires
-    mul-if4
-    returns-4
-    returns-5)
+asking-spec = tie.close (tie.spec fault-requires returns asking-number-requires only-requires returns-2)
