@@ -186,7 +186,18 @@ impl Tally {
         self.came.range((call, number, 0)..(call, number + 1, 0)).map(|came| came.1).sum()
     }
 
-    /// Prints the counts and the last line. True when nothing differed and everything that can arise has arisen.
+    /// What came and can't arise: a number that isn't the call's, or a place where there is none.
+    fn strangers(&self) -> Vec<String> {
+        let can_arise = |&&(call, number, place): &&(usize, u32, usize)| {
+            let (_, of_profile, own) = CALLS[call];
+            let named = of_profile.contains(&number) && OF_VALUE.contains(&number);
+            (of_profile.contains(&number) || own.contains(&number)) && (place != 0) == named
+        };
+        let strange = self.came.keys().filter(|came| !can_arise(came));
+        strange.map(|(call, number, place)| format!("number {number} at {place} came from {}", CALLS[*call].0)).collect()
+    }
+
+    /// Prints the counts and the last line. True when nothing differed, everything that can arise has arisen, and nothing else.
     pub fn report(&mut self) -> bool {
         println!("number        {}", NUMBERS.map(|n| format!("{n:>7}")).concat());
         for (c, (name, ..)) in CALLS.iter().enumerate() {
@@ -206,6 +217,7 @@ impl Tally {
         for reason in REASONS.into_iter().filter(|&reason| self.reasons[reason] == 0).collect::<Vec<_>>() {
             self.difference(&format!("reason {reason} never came"));
         }
+        self.strangers().iter().for_each(|text| self.difference(text));
         println!("outside: {} cases, {} differences", self.cases, self.differences);
         self.differences == 0
     }

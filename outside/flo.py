@@ -1,5 +1,6 @@
-"""An independent sender and receiver, written from the text of document 01 and of document 02's Req 01, 02 and 04 alone (a state's bytes are flo.h's)
-and in another way than the crates: whole lists, integers as polynomials, no tables shared with them. The vectors under outside/ and crates/*/stdout that say so come from here.
+"""An independent sender and receiver, written from the text of document 01 and of document 02's Req 01, 02 and 04 alone (a state's bytes are
+flo.h's) and in another way than the crates: whole lists, integers as polynomials, no tables shared with them. The vectors under outside/ and
+crates/*/stdout that say so come from here.
 
     python3 outside/flo.py NAME      prints the vectors of that name (the names are at the end of this file)
 """

@@ -122,8 +122,13 @@ static int feed_all(struct block *b, size_t size) {
     return 1;
 }
 
+/* Asks with any state. */
+static uint32_t ask_state(struct block *b, uint16_t marks, const uint8_t *state, size_t length, size_t data_length) {
+    return placed(b, flo_ask(b->profile, b->profile_length, marks, state, length, b->received, data_length, &b->lost, b->reasons, &b->place));
+}
+
 static uint32_t ask(struct block *b, uint16_t marks) {
-    return placed(b, flo_ask(b->profile, b->profile_length, marks, b->state, FLO_STATE, b->received, b->data_length, &b->lost, b->reasons, &b->place));
+    return ask_state(b, marks, b->state, FLO_STATE, b->data_length);
 }
 
 static int came_back(const struct block *b) {
@@ -305,9 +310,7 @@ static int no_such_state(struct block *b, uint8_t *state, size_t length) {
     b->lost = 0xA5A5;
     memset(b->reasons, PAINT, sizeof b->reasons);
     return feed_lists(b, lent, length, b->firsts, 1, b->seconds, 2) == FLO_NO_SUCH_STATE &&
-           placed(b, flo_ask(b->profile, b->profile_length, 0xFFFF, lent, length, b->received, 1, &b->lost, b->reasons, &b->place)) ==
-               FLO_NO_SUCH_STATE &&
-           no_answer(b) && memcmp(kept, state, sizeof kept) == 0;
+           ask_state(b, 0xFFFF, lent, length, 1) == FLO_NO_SUCH_STATE && no_answer(b) && memcmp(kept, state, sizeof kept) == 0;
 }
 
 /* A byte of the state changed, and put back. */
