@@ -105,17 +105,15 @@ fn expect_value(tally: &mut Tally, known: Answer, label: &str, value: &Profile) 
 /// unused seeds.
 fn spoilt(tally: &mut Tally, label: &str, right: &Profile, bad: &[(Spot, u32)]) {
     let (mut value, mut bytes) = (*right, written(right));
-    let mut places = Vec::new();
     for &(spot, number) in bad {
         spot.set(&mut value, number);
         if spot.answer().place < bytes.len() {
             spot.put(&mut bytes, number);
-            places.push(spot.answer());
         }
     }
-    let first = |answers: &mut dyn Iterator<Item = Answer>| answers.min_by_key(|answer| answer.place);
-    expect_value(tally, first(&mut bad.iter().map(|b| b.0.answer())).unwrap(), label, &value);
-    expect(tally, first(&mut places.into_iter()).unwrap_or(0.into()), label, &bytes);
+    let first = bad.iter().map(|(spot, _)| spot.answer()).min_by_key(|answer| answer.place).unwrap();
+    expect_value(tally, first, label, &value);
+    expect(tally, if first.place < bytes.len() { first } else { 0.into() }, label, &bytes);
 }
 
 /// Each number alone, with every bad value of it.
