@@ -40,7 +40,7 @@ impl Bench {
         let data: Vec<u8> = (0..PACKET * k as usize).map(|i| number(1000 + i) as u8).collect();
         let cells = CELLS * profile.symbols();
         let (mut firsts, mut seconds) = (vec![0.0; cells], vec![0.0; cells]);
-        assert_eq!(plain::send(&profile, &data, &mut firsts, &mut seconds), 0);
+        assert_eq!(plain::send(&profile, &data, &mut firsts, &mut seconds).number, 0);
         let (_, bytes, count) = plain::write_profile(&profile);
         let block = plain::block_of(k, &data).as_flattened().to_vec();
         assert_eq!(block.len(), BLOCK);
@@ -55,8 +55,8 @@ type Job = (&'static str, fn(&mut Bench) -> u32, fn(&mut Bench) -> u32);
 const JOBS: [Job; 4] = [
     (
         "send",
-        |b| library::send(&b.profile, &b.data, &mut b.firsts, &mut b.seconds),
-        |b| plain::send_bytes(&b.profile, &b.data, &mut b.firsts, &mut b.seconds),
+        |b| library::send(&b.profile, &b.data, &mut b.firsts, &mut b.seconds).number,
+        |b| plain::send_bytes(&b.profile, &b.data, &mut b.firsts, &mut b.seconds).number,
     ),
     (
         "receive, none lost",
@@ -166,7 +166,7 @@ fn with_ends(figure: f64, of: &[f64]) -> String {
 fn fed<const N: usize>(b: &mut Bench) -> u32 {
     b.state.fill(0);
     for (firsts, seconds) in b.firsts.chunks(N).zip(b.seconds.chunks(N)) {
-        let number = library::feed(&b.profile, &mut b.state, firsts, seconds);
+        let number = library::feed(&b.profile, &mut b.state, firsts, seconds).number;
         if number != 0 {
             return number;
         }

@@ -3,6 +3,7 @@
 
 mod check_examples;
 mod check_pieces;
+mod check_places;
 mod check_profile;
 mod check_receive;
 mod check_send;
@@ -19,6 +20,7 @@ fn main() {
     let (mut random, mut tally) = (Random::new(seed), Tally::default());
     check_examples::run(&mut tally);
     check_profile::run(&mut random, &mut tally);
+    check_places::run(&mut random, &mut tally);
     check_send::run(&mut random, &mut tally);
     check_receive::run(&mut random, &mut tally);
     check_pieces::run(&mut random, &mut tally);

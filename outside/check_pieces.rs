@@ -8,10 +8,15 @@ use crate::check_receive::any_grid;
 use crate::check_send::often_right;
 use crate::check_tools::{Call, Random, Room, Tally};
 use crate::library;
-use crate::plain::{self, Came, Profile, Received, CELLS, PACKETS, STATE};
+use crate::plain::{self, Answer, Came, Profile, Received, CELLS, PACKETS, STATE};
 
 /// More parts than the longest piece has.
 const SPARE: usize = 1 << 17;
+
+/// Parts of any bit patterns.
+pub fn spare(random: &mut Random) -> Vec<f32> {
+    (0..SPARE).map(|_| random.float()).collect()
+}
 
 type Piece<'a> = (&'a [f32], &'a [f32]);
 
@@ -21,16 +26,16 @@ fn lent(random: &mut Random, bytes: &[u8]) -> Room<u8> {
     room
 }
 
-/// Feeds the library with a piece; `plain` is the plain program's number, `right` the state that it has then. Afterwards the library's state is
+/// Feeds the library with a piece; `plain` is what the plain program says, `right` the state that it has then. Afterwards the library's state is
 /// that one too, so that a mistake is counted where it is made and not in all that follows.
-fn compare_feed(tally: &mut Tally, label: &str, profile: &[u8], state: &mut Room<u8>, piece: Piece, plain: u32, right: &[u8]) {
+fn compare_feed(tally: &mut Tally, label: &str, profile: &[u8], state: &mut Room<u8>, piece: Piece, plain: Answer, right: &[u8]) {
     let before = state.clone();
     let library = library::feed(profile, state.lent(), piece.0, piece.1);
     let mut own = before.clone();
     own.lent().copy_from_slice(right);
     let tests = [
         ("states differ", state.same(&own)),
-        ("a refusal changed the state", library == 0 || state.same(&before)),
+        ("a refusal changed the state", library.number == 0 || state.same(&before)),
     ];
     tally.case(Call::Feed, label, library, plain, &tests);
     *state = own;
@@ -52,7 +57,7 @@ fn compare_ask(
         ("asking changed the state", state.same(&before)),
         ("plain: mask or reasons not zero", judged || (plain.lost == 0 && plain.reasons == [0; PACKETS])),
     ];
-    tally.case(Call::Ask, label, library.number, plain.number, &tests);
+    tally.case(Call::Ask, label, library.answer(), plain.answer(), &tests);
     if judged {
         tally.reasons(&plain.reasons);
     }
@@ -101,7 +106,7 @@ impl<'a> Feeding<'a> {
 
     fn feed(&mut self, tally: &mut Tally, label: &str, piece: Piece) {
         let plain = self.came.feed(&self.profile, piece.0, piece.1);
-        compare_feed(tally, label, &self.bytes, &mut self.state, piece, plain, self.came.state());
+        compare_feed(tally, label, &self.bytes, &mut self.state, piece, plain.into(), self.came.state());
     }
 
     /// Feeds the next cells of the grid.
@@ -109,7 +114,7 @@ impl<'a> Feeding<'a> {
         let next = self.came.cells()..self.came.cells() + count;
         let piece = (&self.firsts[next.clone()], &self.seconds[next]);
         let plain = self.came.feed(&self.profile, piece.0, piece.1);
-        compare_feed(tally, "the next piece", &self.bytes, &mut self.state, piece, plain, self.came.state());
+        compare_feed(tally, "the next piece", &self.bytes, &mut self.state, piece, plain.into(), self.came.state());
     }
 
     fn ask(&mut self, random: &mut Random, tally: &mut Tally, label: &str, marks: u16, length: usize) {
@@ -266,7 +271,7 @@ fn random_states(random: &mut Random, here: usize) -> Vec<Vec<u8>> {
 }
 
 /// Feeds any piece to a state and asks with it, both with any profile.
-fn strange_case(random: &mut Random, tally: &mut Tally, spare: &[f32], profile: &[u8], state: &[u8], data: usize) {
+pub fn strange_case(random: &mut Random, tally: &mut Tally, spare: &[f32], profile: &[u8], state: &[u8], data: usize) {
     let here = if let [high, low, ..] = state { u16::from_be_bytes([*high, *low]) as usize } else { 0 };
     let rest = (random.pick(&[5, 7]) * CELLS).saturating_sub(here);
     let any = random.below(rest + 1);
@@ -326,7 +331,7 @@ fn wrong_cases(random: &mut Random, tally: &mut Tally, spare: &[f32], mode: u8, 
 }
 
 pub fn run(random: &mut Random, tally: &mut Tally) {
-    let spare: Vec<f32> = (0..SPARE).map(|_| random.float()).collect();
+    let spare = spare(random);
     for (mode, k) in MODES.into_iter().flat_map(|mode| KS.map(|k| (mode, k))) {
         cut_cases(random, tally, &spare, mode, k);
         strange_cases(random, tally, &spare, mode, k);

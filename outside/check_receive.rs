@@ -21,7 +21,7 @@ const STRENGTHS: [u32; 6] = [0x7F80_0000, 0x7F7F_FFFF, 0x0080_0000, 0x007F_FFFF,
 pub struct Receiving {
     label: &'static str,
     pub profile: Profile,
-    bytes: Vec<u8>,
+    pub bytes: Vec<u8>,
     pub marks: u16,
     pub firsts: Vec<f32>,
     pub seconds: Vec<f32>,
@@ -153,14 +153,14 @@ impl Receiving {
     }
 
     /// Gives the lists and the data room other lengths.
-    fn resize(mut self, random: &mut Random, data: usize, firsts: usize, seconds: usize) -> Receiving {
+    pub fn resize(mut self, random: &mut Random, data: usize, firsts: usize, seconds: usize) -> Receiving {
         self.firsts.resize(firsts, self.profile.level);
         self.seconds.resize(seconds, self.profile.level);
         self.room = Room::new(random, data);
         self
     }
 
-    fn compare(&self, tally: &mut Tally) {
+    pub fn compare(&self, tally: &mut Tally) {
         let (mut room, mut own_room) = (self.room.clone(), self.room.clone());
         let library = library::receive(&self.bytes, self.marks, &self.firsts, &self.seconds, room.lent());
         let plain = plain::receive_bytes(&self.bytes, self.marks, &self.firsts, &self.seconds, own_room.lent());
@@ -177,7 +177,7 @@ impl Receiving {
             ("plain: a reason isn't the known one", !judged || known),
             ("plain: the data sent didn't come back", plain.number != 0 || back),
         ];
-        tally.case(Call::Receive, self.label, library.number, plain.number, &tests);
+        tally.case(Call::Receive, self.label, library.answer(), plain.answer(), &tests);
         if judged {
             tally.reasons(&plain.reasons);
         }

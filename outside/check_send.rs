@@ -6,7 +6,7 @@ use crate::plain::{Profile, BLOCK, CELLS, PACKET};
 use crate::{library, plain};
 
 /// What a send is given. Without a symbol number it is the whole grid.
-struct Sending {
+pub struct Sending {
     label: &'static str,
     profile: Vec<u8>,
     data: Vec<u8>,
@@ -17,14 +17,14 @@ struct Sending {
 
 impl Sending {
     /// A send with nothing wrong but what the lengths say: of data, first parts and second parts.
-    fn new(random: &mut Random, label: &'static str, profile: Vec<u8>, symbol: Option<usize>, lengths: [usize; 3]) -> Sending {
+    pub fn new(random: &mut Random, label: &'static str, profile: Vec<u8>, symbol: Option<usize>, lengths: [usize; 3]) -> Sending {
         let data = random.bytes(lengths[0]);
         let (firsts, seconds) = (Room::new(random, lengths[1]), Room::new(random, lengths[2]));
         Sending { label, profile, data, symbol, firsts, seconds }
     }
 
     /// Runs both programs on copies of the same memory and compares all of it, guards too.
-    fn compare(&self, tally: &mut Tally) {
+    pub fn compare(&self, tally: &mut Tally) {
         let (mut f, mut s) = (self.firsts.clone(), self.seconds.clone());
         let (mut own_f, mut own_s) = (self.firsts.clone(), self.seconds.clone());
         let (profile, data) = (&self.profile[..], &self.data[..]);
@@ -43,7 +43,7 @@ impl Sending {
         let tests = [
             ("first parts differ", f.same(&own_f)),
             ("second parts differ", s.same(&own_s)),
-            ("a refusal changed lent memory", library == 0 || (f.same(&self.firsts) && s.same(&self.seconds))),
+            ("a refusal changed lent memory", library.number == 0 || (f.same(&self.firsts) && s.same(&self.seconds))),
         ];
         tally.case(call, self.label, library, plain, &tests);
     }
@@ -63,7 +63,7 @@ pub fn often_right(random: &mut Random, right: usize) -> usize {
     random.pick(&lengths)
 }
 
-fn right_lengths(profile: &Profile, symbol: Option<usize>) -> [usize; 3] {
+pub fn right_lengths(profile: &Profile, symbol: Option<usize>) -> [usize; 3] {
     let cells = if symbol.is_some() { CELLS } else { CELLS * profile.symbols() };
     [profile.data_length(), cells, cells]
 }

@@ -1,5 +1,8 @@
 //! What all outside tests share: the random numbers, lent memory with guards, and the tally of what came.
 
+use crate::plain::Answer;
+use std::collections::BTreeMap;
+
 /// A xorshift generator (Marsaglia's 64-bit one with a multiplied output): no crate, and the same numbers in every run.
 pub struct Random(u64);
 
@@ -112,39 +115,58 @@ pub enum Call {
 }
 
 /// All numbers, as columns of the tally.
-const NUMBERS: [usize; 14] = [0, 1, 2, 3, 4, 5, 6, 7, 8, 9, 10, 16, 17, 22];
+const NUMBERS: [u32; 18] = [0, 1, 2, 3, 5, 6, 7, 8, 9, 10, 16, 17, 22, 40, 41, 42, 43, 44];
 
-/// Each call's name and the numbers that can arise in it.
-const CALLS: [(&str, &[usize]); 8] = [
-    ("send", &[0, 1, 2, 3, 4, 5, 6, 7]),
-    ("send_symbol", &[0, 1, 2, 3, 4, 5, 6, 7, 8]),
-    ("receive", &[0, 1, 2, 3, 4, 5, 6, 7, 9, 10]),
-    ("feed", &[0, 1, 2, 3, 4, 5, 7, 16, 22]),
-    ("ask", &[0, 1, 2, 3, 4, 5, 6, 9, 10, 17, 22]),
-    ("read_profile", &[0, 1, 2, 3, 4, 5]),
-    ("write_profile", &[0, 4]),
-    ("parity", &[0, 4, 6]),
+/// The numbers of a profile that is read, and of one passed as a value.
+const OF_BYTES: &[u32] = &[1, 2, 3, 5, 40, 41, 42, 43, 44];
+const OF_VALUE: &[u32] = &[40, 41, 42, 43, 44];
+
+/// Places that must come wherever a profile can be refused, with their numbers: the first, one between and the last. Those of the seeds are of
+/// both modes: 177 is mode 1's last used one, and 181 is, as a value, its first unused one.
+const PLACES: [(u32, usize); 11] = [
+    (40, 3), (40, 15), (40, 31), (41, 38), (42, 45), (43, 49), (44, 53), (44, 113), (44, 177), (44, 181), (44, 241),
+];
+
+/// Each call's name and the numbers that can arise in it: the profile's, and its own.
+const CALLS: [(&str, &[u32], &[u32]); 8] = [
+    ("send", OF_BYTES, &[0, 6, 7]),
+    ("send_symbol", OF_BYTES, &[0, 6, 7, 8]),
+    ("receive", OF_BYTES, &[0, 6, 7, 9, 10]),
+    ("feed", OF_BYTES, &[0, 7, 16, 22]),
+    ("ask", OF_BYTES, &[0, 6, 9, 10, 17, 22]),
+    ("read_profile", OF_BYTES, &[0]),
+    ("write_profile", OF_VALUE, &[0]),
+    ("parity", &[], &[0, 6, 43]),
 ];
 const REASONS: [usize; 6] = [0, 11, 12, 13, 14, 15];
 const SHOWN: usize = 10;
 
 #[derive(Default)]
 pub struct Tally {
-    numbers: [[u64; 23]; CALLS.len()],
+    /// How often each number came from each call at each place.
+    came: BTreeMap<(usize, u32, usize), u64>,
     reasons: [u64; 16],
     cases: u64,
     differences: u64,
 }
 
 impl Tally {
-    /// One case: both numbers, and what else was compared. `tests` are named by what is wrong where they don't hold.
-    pub fn case(&mut self, call: Call, label: &str, library: u32, plain: u32, tests: &[(&str, bool)]) {
+    /// One case: what both say, and what else was compared. `tests` are named by what is wrong where they don't hold.
+    pub fn case(&mut self, call: Call, label: &str, library: impl Into<Answer>, plain: impl Into<Answer>, tests: &[(&str, bool)]) {
+        let (library, plain): (Answer, Answer) = (library.into(), plain.into());
         self.cases += 1;
-        self.numbers[call as usize][plain as usize] += 1;
+        *self.came.entry((call as usize, plain.number, plain.place)).or_default() += 1;
         let wrong: Vec<&str> = tests.iter().filter(|t| !t.1).map(|t| t.0).collect();
         if library != plain || !wrong.is_empty() {
-            let name = CALLS[call as usize].0;
-            self.difference(&format!("{name}, {label}: library says {library}, plain says {plain}; {}", wrong.join(", ")));
+            let (name, said) = (CALLS[call as usize].0, |answer: Answer| format!("says {} at {}", answer.number, answer.place));
+            self.difference(&format!("{name}, {label}: library {}, plain {}; {}", said(library), said(plain), wrong.join(", ")));
+        }
+    }
+
+    /// Counts a difference where what the plain program says isn't what is known beforehand.
+    pub fn known(&mut self, label: &str, plain: Answer, known: Answer) {
+        if plain != known {
+            self.difference(&format!("{label}: the plain program itself says {plain:?}, not {known:?}"));
         }
     }
 
@@ -159,22 +181,43 @@ impl Tally {
         }
     }
 
-    /// Prints the counts and the last line. True when nothing differed and everything that can arise has arisen.
+    /// How often a number came from a call, at any place.
+    fn count(&self, call: usize, number: u32) -> u64 {
+        self.came.range((call, number, 0)..(call, number + 1, 0)).map(|came| came.1).sum()
+    }
+
+    /// What came and can't arise: a number that isn't the call's, or a place where there is none.
+    fn strangers(&self) -> Vec<String> {
+        let can_arise = |&&(call, number, place): &&(usize, u32, usize)| {
+            let (_, of_profile, own) = CALLS[call];
+            let named = of_profile.contains(&number) && OF_VALUE.contains(&number);
+            (of_profile.contains(&number) || own.contains(&number)) && (place != 0) == named
+        };
+        let strange = self.came.keys().filter(|came| !can_arise(came));
+        strange.map(|(call, number, place)| format!("number {number} at {place} came from {}", CALLS[*call].0)).collect()
+    }
+
+    /// Prints the counts and the last line. True when nothing differed, everything that can arise has arisen, and nothing else.
     pub fn report(&mut self) -> bool {
         println!("number        {}", NUMBERS.map(|n| format!("{n:>7}")).concat());
-        for (c, (name, _)) in CALLS.iter().enumerate() {
-            println!("{name:<14}{}", NUMBERS.map(|n| format!("{:>7}", self.numbers[c][n])).concat());
+        for (c, (name, ..)) in CALLS.iter().enumerate() {
+            println!("{name:<14}{}", NUMBERS.map(|n| format!("{:>7}", self.count(c, n))).concat());
         }
         let reasons = REASONS.map(|reason| format!(" {reason}: {}", self.reasons[reason]));
         println!("reasons      {}", reasons.join(","));
-        for (c, (name, numbers)) in CALLS.iter().enumerate() {
-            for &n in numbers.iter().filter(|&&n| self.numbers[c][n] == 0).collect::<Vec<_>>() {
+        for (c, (name, of_profile, own)) in CALLS.iter().enumerate() {
+            for &n in of_profile.iter().chain(*own).filter(|&&n| self.count(c, n) == 0).collect::<Vec<_>>() {
                 self.difference(&format!("number {n} never came from {name}"));
+            }
+            let missing = |&(number, place): &(u32, usize)| !of_profile.is_empty() && !self.came.contains_key(&(c, number, place));
+            for (number, place) in PLACES.into_iter().filter(missing).collect::<Vec<_>>() {
+                self.difference(&format!("number {number} at {place} never came from {name}"));
             }
         }
         for reason in REASONS.into_iter().filter(|&reason| self.reasons[reason] == 0).collect::<Vec<_>>() {
             self.difference(&format!("reason {reason} never came"));
         }
+        self.strangers().iter().for_each(|text| self.difference(text));
         println!("outside: {} cases, {} differences", self.cases, self.differences);
         self.differences == 0
     }

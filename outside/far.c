@@ -63,44 +63,49 @@ static u32 carry(u64 call, const u64 numbers[NUMBERS], const struct list *lists,
     return (u32)number;
 }
 
-u32 flo_send(const u8 *profile, u64 p, const u8 *data, u64 d, float *firsts, u64 f, float *seconds, u64 s) {
-    const struct list lists[] = { { profile, p, 0 }, { data, d, 0 }, { firsts, 4 * f, 1 }, { seconds, 4 * s, 1 } };
-    return carry(SEND, (u64[]){ 0, 0, 0 }, lists, 4);
+u32 flo_send(const u8 *profile, u64 p, const u8 *data, u64 d, float *firsts, u64 f, float *seconds, u64 s, u64 *place) {
+    const struct list lists[] = { { profile, p, 0 }, { data, d, 0 }, { firsts, 4 * f, 1 }, { seconds, 4 * s, 1 }, { place, 8, 1 } };
+    return carry(SEND, (u64[]){ 0, 0, 0 }, lists, 5);
 }
 
-u32 flo_send_symbol(const u8 *profile, u64 p, const u8 *data, u64 d, u64 symbol, float *firsts, u64 f, float *seconds, u64 s) {
-    const struct list lists[] = { { profile, p, 0 }, { data, d, 0 }, { firsts, 4 * f, 1 }, { seconds, 4 * s, 1 } };
-    return carry(SEND_SYMBOL, (u64[]){ symbol, 0, 0 }, lists, 4);
+u32 flo_send_symbol(const u8 *profile, u64 p, const u8 *data, u64 d, u64 symbol, float *firsts, u64 f, float *seconds, u64 s,
+                    u64 *place) {
+    const struct list lists[] = { { profile, p, 0 }, { data, d, 0 }, { firsts, 4 * f, 1 }, { seconds, 4 * s, 1 }, { place, 8, 1 } };
+    return carry(SEND_SYMBOL, (u64[]){ symbol, 0, 0 }, lists, 5);
 }
 
 u32 flo_receive(const u8 *profile, u64 p, u16 marks, const float *firsts, u64 f, const float *seconds, u64 s, u8 *data, u64 d,
-                u16 *lost, u8 *reasons) {
+                u16 *lost, u8 *reasons, u64 *place) {
     const struct list lists[] = {
-        { profile, p, 0 }, { firsts, 4 * f, 0 }, { seconds, 4 * s, 0 }, { data, d, 1 }, { lost, 2, 1 }, { reasons, 16, 1 },
+        { profile, p, 0 }, { firsts, 4 * f, 0 }, { seconds, 4 * s, 0 }, { data, d, 1 }, { lost, 2, 1 }, { reasons, 16, 1 }, { place, 8, 1 },
     };
-    return carry(RECEIVE, (u64[]){ marks, 0, 0 }, lists, 6);
+    return carry(RECEIVE, (u64[]){ marks, 0, 0 }, lists, 7);
 }
 
-u32 flo_feed(const u8 *profile, u64 p, u8 *state, u64 n, const float *firsts, u64 f, const float *seconds, u64 s) {
-    const struct list lists[] = { { profile, p, 0 }, { state, n, 1 }, { firsts, 4 * f, 0 }, { seconds, 4 * s, 0 } };
-    return carry(FEED, (u64[]){ 0, 0, 0 }, lists, 4);
+u32 flo_feed(const u8 *profile, u64 p, u8 *state, u64 n, const float *firsts, u64 f, const float *seconds, u64 s, u64 *place) {
+    const struct list lists[] = { { profile, p, 0 }, { state, n, 1 }, { firsts, 4 * f, 0 }, { seconds, 4 * s, 0 }, { place, 8, 1 } };
+    return carry(FEED, (u64[]){ 0, 0, 0 }, lists, 5);
 }
 
 /* The state comes back too, though it is only read: the tests look whether it is as it was. */
-u32 flo_ask(const u8 *profile, u64 p, u16 marks, const u8 *state, u64 n, u8 *data, u64 d, u16 *lost, u8 *reasons) {
-    const struct list lists[] = { { profile, p, 0 }, { state, n, 1 }, { data, d, 1 }, { lost, 2, 1 }, { reasons, 16, 1 } };
-    return carry(ASK, (u64[]){ marks, 0, 0 }, lists, 5);
+u32 flo_ask(const u8 *profile, u64 p, u16 marks, const u8 *state, u64 n, u8 *data, u64 d, u16 *lost, u8 *reasons, u64 *place) {
+    const struct list lists[] = {
+        { profile, p, 0 }, { state, n, 1 }, { data, d, 1 }, { lost, 2, 1 }, { reasons, 16, 1 }, { place, 8, 1 },
+    };
+    return carry(ASK, (u64[]){ marks, 0, 0 }, lists, 6);
 }
 
-u32 flo_read_profile(const u8 *profile, u64 p, u32 *masks, float *level, u8 *mode, u8 *k, u32 *seeds) {
-    const struct list lists[] = { { profile, p, 0 }, { masks, 32, 1 }, { level, 4, 1 }, { mode, 1, 1 }, { k, 1, 1 }, { seeds, 192, 1 } };
-    return carry(READ_PROFILE, (u64[]){ 0, 0, 0 }, lists, 6);
+u32 flo_read_profile(const u8 *profile, u64 p, u32 *masks, float *level, u8 *mode, u8 *k, u32 *seeds, u64 *place) {
+    const struct list lists[] = {
+        { profile, p, 0 }, { masks, 32, 1 }, { level, 4, 1 }, { mode, 1, 1 }, { k, 1, 1 }, { seeds, 192, 1 }, { place, 8, 1 },
+    };
+    return carry(READ_PROFILE, (u64[]){ 0, 0, 0 }, lists, 7);
 }
 
-u32 flo_write_profile(const u32 *masks, float level, u8 mode, u8 k, const u32 *seeds, u8 *profile, u64 *count) {
-    const struct list lists[] = { { masks, 32, 0 }, { seeds, 192, 0 }, { profile, 245, 1 }, { count, 8, 1 } };
+u32 flo_write_profile(const u32 *masks, float level, u8 mode, u8 k, const u32 *seeds, u8 *profile, u64 *count, u64 *place) {
+    const struct list lists[] = { { masks, 32, 0 }, { seeds, 192, 0 }, { profile, 245, 1 }, { count, 8, 1 }, { place, 8, 1 } };
     union { float value; u32 bits; } both = { level };
-    return carry(WRITE_PROFILE, (u64[]){ both.bits, mode, k }, lists, 4);
+    return carry(WRITE_PROFILE, (u64[]){ both.bits, mode, k }, lists, 5);
 }
 
 u32 flo_parity(u8 k, u8 *block, u64 n) {

@@ -1,5 +1,6 @@
-"""An independent sender and receiver, written from the text of document 01 and of document 02's Req 01 and 02 alone (a state's bytes are flo.h's) and in another way than the crates:
-whole lists, integers as polynomials, no tables shared with them. The vectors under outside/ and crates/*/stdout that say so come from here.
+"""An independent sender and receiver, written from the text of document 01 and of document 02's Req 01, 02 and 04 alone (a state's bytes are
+flo.h's) and in another way than the crates: whole lists, integers as polynomials, no tables shared with them. The vectors under outside/ and
+crates/*/stdout that say so come from here.
 
     python3 outside/flo.py NAME      prints the vectors of that name (the names are at the end of this file)
 """
@@ -172,7 +173,7 @@ def write_profile(profile):
 def restore(k, lost, data):
     """The number of document 01's table, and the block after it."""
     if k not in (8, 12, 14):
-        return 4, data
+        return 43, data
     if len(data) != 1952:
         return 6, data
     kept = [p for p in range(16) if not lost >> p & 1]
@@ -269,7 +270,7 @@ def coded_lines():
             yield coded_line(name, mode, 0, coded_packet(data, mode))
     yield coded_line("short", 1, 6, [0] * 2000)
     yield coded_line("room", 0, 6, [0] * 2999)
-    yield coded_line("mode", 2, 4, [0] * 2000)
+    yield coded_line("mode", 2, 42, [0] * 2000)
     reserved = 4 * (2 * 992 % 500) + 2 * 992 // 500
     for flipped in (2000, 2000), (0, 2000), (4, 2000), (1999, 2000), (reserved, 2000), (0, reserved):
         bits = coded_packet(formula(122), 1) + [0]
@@ -327,36 +328,59 @@ def vectors():
 
 # ---- crates/profiles: a table of good and damaged profiles
 
-def read_number(data):
-    """The number that reading these bytes answers."""
+def field(tag, mode):
+    """The number that names the field, how many numbers it has, the bytes of each, and which of them are right."""
+    states = range(1, 2 ** 20)
+    return {1: (40, 8, 4, states), 2: (41, 1, 4, range(0x0080_0000, 0x7F80_0000)), 3: (42, 1, 1, (0, 1)), 4: (43, 1, 1, (8, 12, 14)),
+            5: (44, 48 if mode == 0 else 32, 4, states)}[tag]
+
+def read_profile(data):
+    """What reading these bytes answers: the number, and where the first number outside its range begins."""
     at, mode = 0, 0
     for tag in range(1, 6):
-        due = {1: 32, 2: 4, 3: 1, 4: 1, 5: 4 * (48 if mode == 0 else 32)}[tag]
+        named, count, size, right = field(tag, mode)
         if at == len(data):
-            return 5
+            return 5, 0
         if len(data) - at < 3:
-            return 1
+            return 1, 0
         if data[at] != tag:
-            return 2
-        if data[at + 1] * 256 + data[at + 2] != due:
-            return 3
-        value = data[at + 3:at + 3 + due]
-        if len(value) < due:
-            return 1
-        words = [int.from_bytes(value[i:i + 4], "big") for i in range(0, due, 4)]
-        good = {1: all(0 < w < 2 ** 20 for w in words), 2: 0x0080_0000 <= words[0] < 0x7F80_0000, 3: value[0] < 2,
-                4: value[0] in (8, 12, 14), 5: all(0 < w < 2 ** 20 for w in words)}[tag]
-        if not good:
-            return 4
-        mode = value[0] if tag == 3 else mode
-        at += 3 + due
+            return 2, 0
+        if data[at + 1] * 256 + data[at + 2] != count * size:
+            return 3, 0
+        if len(data) - at - 3 < count * size:
+            return 1, 0
+        for place in range(at + 3, at + 3 + count * size, size):
+            if int.from_bytes(data[place:place + size], "big") not in right:
+                return named, place
+        mode = data[at + 3] if tag == 3 else mode
+        at += 3 + count * size
     left = len(data) - at
-    return 0 if left == 0 else 1 if left < 3 else 2
+    return 0 if left == 0 else 1 if left < 3 else 2, 0
+
+def with_numbers(data, *numbers):
+    """With other numbers where mode, K or a number of four bytes begins."""
+    for at, number in numbers:
+        size = 1 if at in (45, 49) else 4
+        data = data[:at] + number.to_bytes(size, "big") + data[at + size:]
+    return data
+
+def faulty_profiles(good):
+    """Numbers outside their range, the first, one between and the last of each field: alone, two of them, and beside faults of headers."""
+    middle, last = 53 + (len(good) - 53) // 8 * 4, len(good) - 4
+    bad = [(3, 0), (15, 2 ** 20), (31, 2 ** 32 - 1), (38, 0x7F80_0000), (45, 2), (49, 9), (53, 0), (middle, 2 ** 20), (last, 2 ** 31)]
+    for i, one in enumerate(bad):
+        wrong = with_numbers(good, one)
+        yield wrong
+        yield from (with_numbers(wrong, two) for two in bad[:i])
+        yield from (wrong[:-1], wrong[:50], wrong + b"\6", b"\0" + wrong[1:], wrong[:2] + b"\0" + wrong[3:], wrong[:50] + b"\6" + wrong[51:])
+
+def good_profile(mode, k):
+    slots = 48 if mode == 0 else 32
+    return write_profile(([(37 * i + 1) % 2 ** 20 for i in range(8)], 1.5, mode, k, [2 ** 20 - 1 - 977 * t for t in range(slots)]))
 
 def profile_table():
     for mode, k in (0, 14), (1, 8), (0, 8), (1, 12):
-        slots = 48 if mode == 0 else 32
-        good = write_profile(([(37 * i + 1) % 2 ** 20 for i in range(8)], 1.5, mode, k, [2 ** 20 - 1 - 977 * t for t in range(slots)]))
+        good = good_profile(mode, k)
         yield good
         starts = [0, 35, 42, 46, 50, len(good)]
         for at in starts:
@@ -368,22 +392,26 @@ def profile_table():
                 for other in (0, 1, 6, 255):
                     yield good[:place] + bytes([other]) + good[place + 1:]
         for level in 0, 0x8000_0000, 1, 0x007F_FFFF, 0x0080_0000, 0x7F7F_FFFF, 0x7F80_0000, 0x7FC0_0000, 0xBF80_0000, 0xFFFF_FFFF:
-            yield good[:38] + struct.pack(">I", level) + good[42:]
+            yield with_numbers(good, (38, level))
         for at, number in (3, 0), (3, 2 ** 20), (31, 2 ** 20 - 1), (31, 2 ** 32 - 1), (53, 0), (53, 2 ** 20), (len(good) - 4, 0), (len(good) - 4, 2 ** 20):
-            yield good[:at] + struct.pack(">I", number) + good[at + 4:]
+            yield with_numbers(good, (at, number))
         for at, number in [(45, n) for n in (0, 1, 2, 255)] + [(49, n) for n in (0, 7, 8, 12, 13, 14, 15, 16)]:
-            yield good[:at] + bytes([number]) + good[at + 1:]
+            yield with_numbers(good, (at, number))
+        yield from faulty_profiles(good)
+        yield with_numbers(good_profile(1 - mode, k), (45, 2))
 
-def seeds_number(seeds, mode):
-    """What writing answers to 48 seeds, where all else is right: those that the mode does not use are to be zero."""
+def seeds_answer(seeds, mode):
+    """What writing answers to 48 seeds, where all else is right: those that the mode does not use are to be zero. The place of a seed is where the
+    profile ends if it is written with the seeds before it."""
     used = 48 if mode == 0 else 32
-    return 0 if all(0 < s < 2 ** 20 for s in seeds[:used]) and not any(seeds[used:]) else 4
+    wrong = [t for t, seed in enumerate(seeds) if (not 0 < seed < 2 ** 20 if t < used else seed != 0)]
+    return (44, len(write_profile(([1] * 8, 1.0, mode, 8, seeds[:wrong[0]])))) if wrong else (0, 0)
 
 def profiles():
     for data in profile_table():
-        number = read_number(data)
+        number, place = read_profile(data)
         seeds = [int.from_bytes(data[at:at + 4], "big") for at in range(53, 241, 4)]
-        yield (number, 0, len(data), "same", seeds_number(seeds + [1], data[45])) if number == 0 else (number, "")
+        yield (number, place, 0, 0, len(data), "same", *seeds_answer(seeds + [1], data[45])) if number == 0 else (number, place, "")
 
 def profiles_stdin():
     for data in profile_table():

@@ -1,6 +1,6 @@
-//! An independent sender and receiver, written from the text of document 01 and of document 02's Req 01 and 02 alone (a state's bytes are
-//! flo.h's) and in the ordinary way: log tables, precomputed addresses and places, one bit per byte. The outside tests compare the C library with it, and the
-//! benchmark times the two side by side.
+//! An independent sender and receiver, written from the text of document 01 and of document 02's Req 01, 02 and 04 alone (a state's bytes are
+//! flo.h's) and in the ordinary way: log tables, precomputed addresses and places, one bit per byte. The outside tests compare the C library
+//! with it, and the benchmark times the two side by side.
 //!
 //! Names are the documents'. `r` is 16 - K, `n` the slots of one packet, `p` a packet, `t` a block slot, `j` a column.
 
@@ -29,7 +29,6 @@ pub const DONE: u32 = 0;
 pub const ENDS_INSIDE: u32 = 1;
 pub const OTHER_TAG: u32 = 2;
 pub const WRONG_LENGTH: u32 = 3;
-pub const OUT_OF_RANGE: u32 = 4;
 pub const FIELD_DUE: u32 = 5;
 pub const DATA_LENGTH: u32 = 6;
 pub const CELL_LENGTH: u32 = 7;
@@ -39,6 +38,11 @@ pub const NO_CODEWORD: u32 = 10;
 pub const TOO_MANY_CELLS: u32 = 16;
 pub const CELLS_MISSING: u32 = 17;
 pub const NO_SUCH_STATE: u32 = 22;
+pub const BAD_MASK: u32 = 40;
+pub const BAD_LEVEL: u32 = 41;
+pub const BAD_MODE: u32 = 42;
+pub const BAD_K: u32 = 43;
+pub const BAD_SEED: u32 = 44;
 
 pub const ACCEPTED: u8 = 0;
 pub const MARKED: u8 = 11;
@@ -135,37 +139,38 @@ fn send_range(profile: &Profile, data: &[u8], symbols: Range<usize>, firsts: &mu
 }
 
 /// The refusals that all calls on cells share, in their order; `lengths` are the two lists' and the right one.
-fn refusal(profile: &Profile, data: usize, lengths: (usize, usize, usize)) -> u32 {
-    if !profile.in_range() {
-        OUT_OF_RANGE
+fn refusal(profile: &Profile, data: usize, lengths: (usize, usize, usize)) -> Answer {
+    let fault = profile.fault();
+    if fault.number != DONE {
+        fault
     } else if data != profile.data_length() {
-        DATA_LENGTH
+        DATA_LENGTH.into()
     } else if lengths.0 != lengths.2 || lengths.1 != lengths.2 {
-        CELL_LENGTH
+        CELL_LENGTH.into()
     } else {
-        DONE
+        DONE.into()
     }
 }
 
-pub fn send(profile: &Profile, data: &[u8], firsts: &mut [f32], seconds: &mut [f32]) -> u32 {
+pub fn send(profile: &Profile, data: &[u8], firsts: &mut [f32], seconds: &mut [f32]) -> Answer {
     let right = CELLS * profile.symbols();
-    let number = refusal(profile, data.len(), (firsts.len(), seconds.len(), right));
-    if number == DONE {
+    let answer = refusal(profile, data.len(), (firsts.len(), seconds.len(), right));
+    if answer.number == DONE {
         send_range(profile, data, 0..profile.symbols(), firsts, seconds);
     }
-    number
+    answer
 }
 
-pub fn send_symbol(profile: &Profile, data: &[u8], symbol: usize, firsts: &mut [f32], seconds: &mut [f32]) -> u32 {
-    let number = refusal(profile, data.len(), (firsts.len(), seconds.len(), CELLS));
-    if number != DONE {
-        return number;
+pub fn send_symbol(profile: &Profile, data: &[u8], symbol: usize, firsts: &mut [f32], seconds: &mut [f32]) -> Answer {
+    let answer = refusal(profile, data.len(), (firsts.len(), seconds.len(), CELLS));
+    if answer.number != DONE {
+        return answer;
     }
     if symbol >= profile.symbols() {
-        return NO_SUCH_SYMBOL;
+        return NO_SUCH_SYMBOL.into();
     }
     send_range(profile, data, symbol..symbol + 1, firsts, seconds);
-    DONE
+    answer
 }
 
 // ---- the way back
@@ -173,8 +178,22 @@ pub fn send_symbol(profile: &Profile, data: &[u8], symbol: usize, firsts: &mut [
 #[derive(Clone, Copy, PartialEq, Debug)]
 pub struct Received {
     pub number: u32,
+    pub place: usize,
     pub lost: u16,
     pub reasons: [u8; PACKETS],
+}
+
+impl Received {
+    pub fn answer(&self) -> Answer {
+        Answer { number: self.number, place: self.place }
+    }
+}
+
+/// An answer that says nothing of packets.
+impl From<Answer> for Received {
+    fn from(Answer { number, place }: Answer) -> Received {
+        Received { number, place, lost: 0, reasons: [0; PACKETS] }
+    }
 }
 
 /// Decides and unscrambles the bits of block slot t; false when one of them is doubtful.
@@ -222,9 +241,8 @@ fn judge(profile: &Profile, p: usize, firsts: &[f32], seconds: &[f32]) -> (u8, [
 }
 
 pub fn receive(profile: &Profile, marks: u16, firsts: &[f32], seconds: &[f32], data: &mut [u8]) -> Received {
-    let mut answer = Received { number: DONE, lost: 0, reasons: [0; PACKETS] };
     let right = CELLS * profile.symbols();
-    answer.number = refusal(profile, data.len(), (firsts.len(), seconds.len(), right));
+    let mut answer = Received::from(refusal(profile, data.len(), (firsts.len(), seconds.len(), right)));
     if answer.number != DONE {
         return answer;
     }
@@ -245,25 +263,25 @@ pub fn receive(profile: &Profile, marks: u16, firsts: &[f32], seconds: &[f32], d
     answer
 }
 
-// ---- the same calls on a profile's bytes, as the C library takes them: the number of reading comes first
+// ---- the same calls on a profile's bytes, as the C library takes them: what reading says comes first
 
-pub fn send_bytes(profile: &[u8], data: &[u8], firsts: &mut [f32], seconds: &mut [f32]) -> u32 {
-    match read_profile(profile) {
-        (DONE, profile) => send(&profile, data, firsts, seconds),
-        (number, _) => number,
+pub fn send_bytes(profile: &[u8], data: &[u8], firsts: &mut [f32], seconds: &mut [f32]) -> Answer {
+    match read_fields(profile) {
+        Ok(profile) => send(&profile, data, firsts, seconds),
+        Err(answer) => answer,
     }
 }
 
-pub fn send_symbol_bytes(profile: &[u8], data: &[u8], symbol: usize, firsts: &mut [f32], seconds: &mut [f32]) -> u32 {
-    match read_profile(profile) {
-        (DONE, profile) => send_symbol(&profile, data, symbol, firsts, seconds),
-        (number, _) => number,
+pub fn send_symbol_bytes(profile: &[u8], data: &[u8], symbol: usize, firsts: &mut [f32], seconds: &mut [f32]) -> Answer {
+    match read_fields(profile) {
+        Ok(profile) => send_symbol(&profile, data, symbol, firsts, seconds),
+        Err(answer) => answer,
     }
 }
 
 pub fn receive_bytes(profile: &[u8], marks: u16, firsts: &[f32], seconds: &[f32], data: &mut [u8]) -> Received {
-    match read_profile(profile) {
-        (DONE, profile) => receive(&profile, marks, firsts, seconds, data),
-        (number, _) => Received { number, lost: 0, reasons: [0; PACKETS] },
+    match read_fields(profile) {
+        Ok(profile) => receive(&profile, marks, firsts, seconds, data),
+        Err(answer) => answer.into(),
     }
 }

@@ -1,6 +1,6 @@
 //! Part of plain.rs: field, outer code, check word, turbo code and bit interleaver, by document 01's text alone.
 
-use super::{BLOCK, DATA_LENGTH, DONE, ENTERING, OUT_OF_RANGE, PACKET, PACKETS, SLOT};
+use super::{BAD_K, BLOCK, DATA_LENGTH, DONE, ENTERING, PACKET, PACKETS, SLOT};
 
 // ---- GF(256) by logarithms
 
@@ -67,7 +67,7 @@ fn generator(k: u8) -> Option<&'static [u16]> {
 
 /// Fills packets k to 15 of a lent block of 1952 bytes.
 pub fn parity(k: u8, block: &mut [u8]) -> u32 {
-    let Some(generator) = generator(k) else { return OUT_OF_RANGE };
+    let Some(generator) = generator(k) else { return BAD_K };
     if block.len() != BLOCK {
         return DATA_LENGTH;
     }

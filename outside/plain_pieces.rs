@@ -3,7 +3,7 @@
 //! Nothing clever: the cells that have come are kept as they came, and when the last is there they are received as a whole grid. A state
 //! from elsewhere is good exactly when some cells leave it; its own bytes tell which ones these would have to be.
 
-use super::{read_profile, receive, Profile, Received, CELLS, CELLS_MISSING, CELL_LENGTH, DONE, NO_SUCH_STATE, PACKETS, TOO_MANY_CELLS};
+use super::{read_fields, receive, Answer, Profile, Received, CELLS, CELLS_MISSING, CELL_LENGTH, DONE, NO_SUCH_STATE, TOO_MANY_CELLS};
 
 /// Bytes of a state.
 pub const STATE: usize = 2 + 7 * CELLS;
@@ -24,11 +24,6 @@ fn decision(part: f32) -> u8 {
     } else {
         2
     }
-}
-
-/// An answer that says nothing of packets.
-fn refused(number: u32) -> Received {
-    Received { number, lost: 0, reasons: [0; PACKETS] }
 }
 
 impl Came {
@@ -64,7 +59,7 @@ impl Came {
     /// 6, 17, or what the whole grid gives.
     pub fn ask(&self, profile: &Profile, marks: u16, data: &mut [u8]) -> Received {
         if data.len() == profile.data_length() && self.cells() < CELLS * profile.symbols() {
-            return refused(CELLS_MISSING);
+            return Answer::from(CELLS_MISSING).into();
         }
         receive(profile, marks, &self.firsts, &self.seconds, data)
     }
@@ -84,24 +79,24 @@ impl Came {
 
 // ---- the two calls on a profile's bytes and any state, as the C library takes them
 
-pub fn feed_bytes(profile: &[u8], state: &mut [u8], firsts: &[f32], seconds: &[f32]) -> u32 {
-    let (number, profile) = read_profile(profile);
-    if number != DONE {
-        return number;
-    }
-    let Some(mut came) = Came::told_by(&profile, state) else { return NO_SUCH_STATE };
+pub fn feed_bytes(profile: &[u8], state: &mut [u8], firsts: &[f32], seconds: &[f32]) -> Answer {
+    let profile = match read_fields(profile) {
+        Ok(profile) => profile,
+        Err(answer) => return answer,
+    };
+    let Some(mut came) = Came::told_by(&profile, state) else { return NO_SUCH_STATE.into() };
     let number = came.feed(&profile, firsts, seconds);
     state.copy_from_slice(came.state());
-    number
+    number.into()
 }
 
 pub fn ask_bytes(profile: &[u8], marks: u16, state: &[u8], data: &mut [u8]) -> Received {
-    let (number, profile) = read_profile(profile);
-    if number != DONE {
-        return refused(number);
-    }
+    let profile = match read_fields(profile) {
+        Ok(profile) => profile,
+        Err(answer) => return answer.into(),
+    };
     match Came::told_by(&profile, state) {
         Some(came) => came.ask(&profile, marks, data),
-        None => refused(NO_SUCH_STATE),
+        None => Answer::from(NO_SUCH_STATE).into(),
     }
 }

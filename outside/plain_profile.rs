@@ -1,6 +1,22 @@
-//! Part of plain.rs: the profile as bytes and as a value, by document 01's text alone.
+//! Part of plain.rs: the profile as bytes and as a value, by the text of document 01 and of document 02's Req 04 alone.
+//!
+//! A place is found in two ways that share nothing: reading knows how many bytes it has walked over, and a value's numbers are counted off.
 
-use super::{DONE, ENDS_INSIDE, FIELD_DUE, OTHER_TAG, OUT_OF_RANGE, PACKET, PACKETS, PROFILE, WRONG_LENGTH};
+use super::{BAD_K, BAD_LEVEL, BAD_MASK, BAD_MODE, BAD_SEED, DONE, ENDS_INSIDE, FIELD_DUE, OTHER_TAG, PACKET, PACKETS, PROFILE, WRONG_LENGTH};
+
+/// What a call says: its number, and at 40 to 44 the byte of the profile where the faulty number begins. Every other number has place 0.
+#[derive(Clone, Copy, PartialEq, Debug)]
+pub struct Answer {
+    pub number: u32,
+    pub place: usize,
+}
+
+/// A number that has no place.
+impl From<u32> for Answer {
+    fn from(number: u32) -> Answer {
+        Answer { number, place: 0 }
+    }
+}
 
 #[derive(Clone, Copy)]
 pub struct Profile {
@@ -35,13 +51,23 @@ impl Profile {
         PACKET * self.k as usize
     }
 
-    pub fn in_range(&self) -> bool {
-        is_mode(self.mode)
-            && is_k(self.k)
-            && is_level(self.level)
-            && self.masks.iter().all(|&m| is_state(m))
-            && self.seeds[..self.slots()].iter().all(|&s| is_state(s))
-            && self.seeds[self.slots()..].iter().all(|&s| s == 0)
+    /// The first number outside its range, in the order of the tags, and where it would begin if the profile were written out with all its
+    /// 48 seeds; 0 when all are right.
+    pub fn fault(&self) -> Answer {
+        let seed = |(t, &seed): (usize, &u32)| (BAD_SEED, 4, if t < self.slots() { is_state(seed) } else { seed == 0 });
+        let between = [(BAD_LEVEL, 4, is_level(self.level)), (BAD_MODE, 1, is_mode(self.mode)), (BAD_K, 1, is_k(self.k))];
+        let masks = self.masks.iter().map(|&mask| (BAD_MASK, 4, is_state(mask)));
+        let (mut field, mut place) = (0, 0);
+        for (number, size, good) in masks.chain(between).chain(self.seeds.iter().enumerate().map(seed)) {
+            if number != field {
+                (field, place) = (number, place + 3); // tag and length stand before a field's first number
+            }
+            if !good {
+                return Answer { number, place };
+            }
+            place += size;
+        }
+        DONE.into()
     }
 }
 
@@ -62,30 +88,34 @@ fn is_k(k: u8) -> bool {
     matches!(k, 8 | 12 | 14)
 }
 
-/// The number of reading, and the profile, all zero on a refusal.
-pub fn read_profile(bytes: &[u8]) -> (u32, Profile) {
+/// What reading says, and the profile, all zero on a refusal.
+pub fn read_profile(bytes: &[u8]) -> (Answer, Profile) {
     match read_fields(bytes) {
-        Ok(profile) => (DONE, profile),
-        Err(number) => (number, Profile::ZERO),
+        Ok(profile) => (DONE.into(), profile),
+        Err(answer) => (answer, Profile::ZERO),
     }
 }
 
-fn read_fields(mut rest: &[u8]) -> Result<Profile, u32> {
-    let mut profile = Profile::ZERO;
-    read_states(take_field(&mut rest, 1, 32)?, &mut profile.masks)?;
-    let level = take_field(&mut rest, 2, 4)?;
+/// The profile that the bytes say, or why they say none.
+pub fn read_fields(bytes: &[u8]) -> Result<Profile, Answer> {
+    let (mut profile, mut rest) = (Profile::ZERO, bytes);
+    let mut field = |tag, length| take_field(&mut rest, tag, length).map(|value| (bytes.len() - rest.len() - length, value));
+    read_states(field(1, 32)?, &mut profile.masks, BAD_MASK)?;
+    let (place, level) = field(2, 4)?;
     profile.level = f32::from_bits(u32::from_be_bytes(level.try_into().unwrap()));
-    demand(is_level(profile.level))?;
-    profile.mode = take_field(&mut rest, 3, 1)?[0];
-    demand(is_mode(profile.mode))?;
-    profile.k = take_field(&mut rest, 4, 1)?[0];
-    demand(is_k(profile.k))?;
+    demand(is_level(profile.level), BAD_LEVEL, place)?;
+    let (place, mode) = field(3, 1)?;
+    profile.mode = mode[0];
+    demand(is_mode(profile.mode), BAD_MODE, place)?;
+    let (place, k) = field(4, 1)?;
+    profile.k = k[0];
+    demand(is_k(profile.k), BAD_K, place)?;
     let slots = profile.slots();
-    read_states(take_field(&mut rest, 5, 4 * slots)?, &mut profile.seeds[..slots])?;
+    read_states(field(5, 4 * slots)?, &mut profile.seeds[..slots], BAD_SEED)?;
     match rest.len() {
         0 => Ok(profile),
-        1 | 2 => Err(ENDS_INSIDE),
-        _ => Err(OTHER_TAG),
+        1 | 2 => Err(ENDS_INSIDE.into()),
+        _ => Err(OTHER_TAG.into()),
     }
 }
 
@@ -105,23 +135,25 @@ fn take_field<'a>(rest: &mut &'a [u8], tag: u8, length: usize) -> Result<&'a [u8
     }
 }
 
-fn read_states(value: &[u8], states: &mut [u32]) -> Result<(), u32> {
-    for (state, bytes) in states.iter_mut().zip(value.chunks_exact(4)) {
+/// The states of a field whose value begins at a place.
+fn read_states((place, value): (usize, &[u8]), states: &mut [u32], number: u32) -> Result<(), Answer> {
+    for (i, (state, bytes)) in states.iter_mut().zip(value.chunks_exact(4)).enumerate() {
         *state = u32::from_be_bytes(bytes.try_into().unwrap());
-        demand(is_state(*state))?;
+        demand(is_state(*state), number, place + 4 * i)?;
     }
     Ok(())
 }
 
-fn demand(in_range: bool) -> Result<(), u32> {
-    if in_range { Ok(()) } else { Err(OUT_OF_RANGE) }
+fn demand(in_range: bool, number: u32, place: usize) -> Result<(), Answer> {
+    if in_range { Ok(()) } else { Err(Answer { number, place }) }
 }
 
-/// The number of writing, the bytes with zeros after them, and their count; all zero on a refusal.
-pub fn write_profile(value: &Profile) -> (u32, [u8; PROFILE], usize) {
+/// What writing says, the bytes with zeros after them, and their count; bytes and count all zero on a refusal.
+pub fn write_profile(value: &Profile) -> (Answer, [u8; PROFILE], usize) {
     let mut bytes = [0; PROFILE];
-    if !value.in_range() {
-        return (OUT_OF_RANGE, bytes, 0);
+    let answer = value.fault();
+    if answer.number != DONE {
+        return (answer, bytes, 0);
     }
     let states = |list: &[u32]| list.iter().flat_map(|x| x.to_be_bytes()).collect::<Vec<u8>>();
     let level = value.level.to_bits().to_be_bytes().to_vec();
@@ -133,5 +165,5 @@ pub fn write_profile(value: &Profile) -> (u32, [u8; PROFILE], usize) {
         bytes[count + 3..count + 3 + field.len()].copy_from_slice(&field);
         count += 3 + field.len();
     }
-    (DONE, bytes, count)
+    (answer, bytes, count)
 }

@@ -1,13 +1,13 @@
 /* Runs the library's calls for far.c: reads requests from standard input, answers on standard output. See far.h. */
 #include "far.h"
 
-u32 flo_send(const u8 *, u64, const u8 *, u64, float *, u64, float *, u64);
-u32 flo_send_symbol(const u8 *, u64, const u8 *, u64, u64, float *, u64, float *, u64);
-u32 flo_receive(const u8 *, u64, u16, const float *, u64, const float *, u64, u8 *, u64, u16 *, u8 *);
-u32 flo_feed(const u8 *, u64, u8 *, u64, const float *, u64, const float *, u64);
-u32 flo_ask(const u8 *, u64, u16, const u8 *, u64, u8 *, u64, u16 *, u8 *);
-u32 flo_read_profile(const u8 *, u64, u32 *, float *, u8 *, u8 *, u32 *);
-u32 flo_write_profile(const u32 *, float, u8, u8, const u32 *, u8 *, u64 *);
+u32 flo_send(const u8 *, u64, const u8 *, u64, float *, u64, float *, u64, u64 *);
+u32 flo_send_symbol(const u8 *, u64, const u8 *, u64, u64, float *, u64, float *, u64, u64 *);
+u32 flo_receive(const u8 *, u64, u16, const float *, u64, const float *, u64, u8 *, u64, u16 *, u8 *, u64 *);
+u32 flo_feed(const u8 *, u64, u8 *, u64, const float *, u64, const float *, u64, u64 *);
+u32 flo_ask(const u8 *, u64, u16, const u8 *, u64, u8 *, u64, u16 *, u8 *, u64 *);
+u32 flo_read_profile(const u8 *, u64, u32 *, float *, u8 *, u8 *, u32 *, u64 *);
+u32 flo_write_profile(const u32 *, float, u8, u8, const u32 *, u8 *, u64 *, u64 *);
 u32 flo_parity(u8, u8 *, u64);
 
 enum { ROOM = 1 << 21, GUARD = 128, PATTERN = 0x5C };
@@ -63,21 +63,22 @@ static float float_of(u64 bits) {
 static u32 run(const struct request *request) {
     const u64 *n = request->bytes, *a = request->numbers;
     u8 **l = lists;
+    u64 *place = (u64 *)l[request->count - 1]; /* the last list of every call that has one */
     switch (request->call) {
     case SEND:
-        return flo_send(l[0], n[0], l[1], n[1], (float *)l[2], n[2] / 4, (float *)l[3], n[3] / 4);
+        return flo_send(l[0], n[0], l[1], n[1], (float *)l[2], n[2] / 4, (float *)l[3], n[3] / 4, place);
     case SEND_SYMBOL:
-        return flo_send_symbol(l[0], n[0], l[1], n[1], a[0], (float *)l[2], n[2] / 4, (float *)l[3], n[3] / 4);
+        return flo_send_symbol(l[0], n[0], l[1], n[1], a[0], (float *)l[2], n[2] / 4, (float *)l[3], n[3] / 4, place);
     case RECEIVE:
-        return flo_receive(l[0], n[0], (u16)a[0], (float *)l[1], n[1] / 4, (float *)l[2], n[2] / 4, l[3], n[3], (u16 *)l[4], l[5]);
+        return flo_receive(l[0], n[0], (u16)a[0], (float *)l[1], n[1] / 4, (float *)l[2], n[2] / 4, l[3], n[3], (u16 *)l[4], l[5], place);
     case FEED:
-        return flo_feed(l[0], n[0], l[1], n[1], (float *)l[2], n[2] / 4, (float *)l[3], n[3] / 4);
+        return flo_feed(l[0], n[0], l[1], n[1], (float *)l[2], n[2] / 4, (float *)l[3], n[3] / 4, place);
     case ASK:
-        return flo_ask(l[0], n[0], (u16)a[0], l[1], n[1], l[2], n[2], (u16 *)l[3], l[4]);
+        return flo_ask(l[0], n[0], (u16)a[0], l[1], n[1], l[2], n[2], (u16 *)l[3], l[4], place);
     case READ_PROFILE:
-        return flo_read_profile(l[0], n[0], (u32 *)l[1], (float *)l[2], l[3], l[4], (u32 *)l[5]);
+        return flo_read_profile(l[0], n[0], (u32 *)l[1], (float *)l[2], l[3], l[4], (u32 *)l[5], place);
     case WRITE_PROFILE:
-        return flo_write_profile((u32 *)l[0], float_of(a[0]), (u8)a[1], (u8)a[2], (u32 *)l[1], l[2], (u64 *)l[3]);
+        return flo_write_profile((u32 *)l[0], float_of(a[0]), (u8)a[1], (u8)a[2], (u32 *)l[1], l[2], (u64 *)l[3], place);
     default:
         return flo_parity((u8)a[0], l[0], n[0]);
     }
@@ -86,7 +87,7 @@ static u32 run(const struct request *request) {
 int main(void) {
     struct request request;
     while (whole_read(0, &request, sizeof request)) {
-        if (request.count > LISTS || !take(&request)) return 1;
+        if (request.count < 1 || request.count > LISTS || !take(&request)) return 1;
         u64 number = run(&request);
         if (!guards_kept(&request)) number = WROTE_OUTSIDE;
         if (!whole_write(1, &number, sizeof number)) return 1;

@@ -11,7 +11,7 @@
 #include <string.h>
 #include <sys/mman.h>
 
-enum { THREADS = 4, TURNS = 40, CELLS = FLO_MOST_SYMBOLS * FLO_SYMBOL_CELLS, PAINT = 0xA5 };
+enum { THREADS = 4, TURNS = 40, CELLS = FLO_MOST_SYMBOLS * FLO_SYMBOL_CELLS, PAINT = 0xA5, WRONG_PLACE = 1000 };
 
 static int passed, failed;
 
@@ -38,14 +38,42 @@ struct block {
     uint16_t lost;
     uint8_t reasons[FLO_PACKETS];
     uint8_t state[FLO_STATE];
+    size_t place; /* painted before each call */
+    size_t due;   /* where the profile's first bad number begins, if there is one */
 };
 
-static uint32_t write_profile(struct block *b, float level) {
-    uint32_t masks[FLO_MASKS], seeds[FLO_SEEDS];
+/* The number of a call that was given b->place; WRONG_PLACE where it didn't write there what is due. */
+static uint32_t placed(struct block *b, uint32_t number) {
+    const size_t place = b->place, due = number >= FLO_BAD_MASK && number <= FLO_BAD_SEED ? b->due : 0;
+    memset(&b->place, PAINT, sizeof b->place);
+    return place == due ? number : (uint32_t)WRONG_PLACE;
+}
+
+struct value {
+    uint32_t masks[FLO_MASKS];
+    float level;
+    uint8_t mode, k;
+    uint32_t seeds[FLO_SEEDS];
+};
+
+static struct value good_value(const struct block *b) {
+    struct value v;
     unsigned i;
-    for (i = 0; i < FLO_MASKS; i++) masks[i] = i * 130003 % 1048575 + 1;
-    for (i = 0; i < FLO_SEEDS; i++) seeds[i] = b->mode == 0 || i < 32 ? i * 21001 % 1048575 + 1 : 0;
-    return flo_write_profile(masks, level, b->mode, b->k, seeds, b->profile, &b->profile_length);
+    for (i = 0; i < FLO_MASKS; i++) v.masks[i] = i * 130003 % 1048575 + 1;
+    for (i = 0; i < FLO_SEEDS; i++) v.seeds[i] = b->mode == 0 || i < 32 ? i * 21001 % 1048575 + 1 : 0;
+    v.level = 0.5f;
+    v.mode = b->mode;
+    v.k = b->k;
+    return v;
+}
+
+static uint32_t write_value(struct block *b, const struct value *v) {
+    return placed(b, flo_write_profile(v->masks, v->level, v->mode, v->k, v->seeds, b->profile, &b->profile_length, &b->place));
+}
+
+static uint32_t write_profile(struct block *b) {
+    const struct value v = good_value(b);
+    return write_value(b, &v);
 }
 
 /* A block of its own for each mode, k and number. */
@@ -56,22 +84,33 @@ static void begin(struct block *b, int mode, int k, unsigned number) {
     b->k = (uint8_t)k;
     b->data_length = (size_t)k * FLO_PACKET_BYTES;
     b->cells = (size_t)FLO_SYMBOLS(mode) * FLO_SYMBOL_CELLS;
+    b->due = 0;
     for (i = 0; i < b->data_length; i++) b->data[i] = (uint8_t)(i * 73 + i / 251 + number * 17);
-    write_profile(b, 0.5f);
+    write_profile(b);
 }
 
 static uint32_t send_block(struct block *b) {
-    return flo_send(b->profile, b->profile_length, b->data, b->data_length, b->firsts, b->cells, b->seconds, b->cells);
+    return placed(b, flo_send(b->profile, b->profile_length, b->data, b->data_length, b->firsts, b->cells, b->seconds, b->cells, &b->place));
+}
+
+static uint32_t send_symbol(struct block *b, size_t symbol, float *firsts, float *seconds) {
+    return placed(b, flo_send_symbol(b->profile, b->profile_length, b->data, b->data_length, symbol, firsts, FLO_SYMBOL_CELLS, seconds,
+                                     FLO_SYMBOL_CELLS, &b->place));
 }
 
 static uint32_t receive(struct block *b, uint16_t marks) {
-    return flo_receive(b->profile, b->profile_length, marks, b->firsts, b->cells, b->seconds, b->cells, b->received, b->data_length, &b->lost,
-                       b->reasons);
+    return placed(b, flo_receive(b->profile, b->profile_length, marks, b->firsts, b->cells, b->seconds, b->cells, b->received, b->data_length,
+                                 &b->lost, b->reasons, &b->place));
+}
+
+/* Feeds any lists to any state. */
+static uint32_t feed_lists(struct block *b, uint8_t *state, size_t length, const float *firsts, size_t one, const float *seconds, size_t other) {
+    return placed(b, flo_feed(b->profile, b->profile_length, state, length, firsts, one, seconds, other, &b->place));
 }
 
 /* Feeds cells of the block's grid. */
 static uint32_t feed(struct block *b, size_t from, size_t count) {
-    return flo_feed(b->profile, b->profile_length, b->state, FLO_STATE, b->firsts + from, count, b->seconds + from, count);
+    return feed_lists(b, b->state, FLO_STATE, b->firsts + from, count, b->seconds + from, count);
 }
 
 /* Feeds the whole grid from the beginning, in pieces of this size. */
@@ -83,8 +122,13 @@ static int feed_all(struct block *b, size_t size) {
     return 1;
 }
 
+/* Asks with any state. */
+static uint32_t ask_state(struct block *b, uint16_t marks, const uint8_t *state, size_t length, size_t data_length) {
+    return placed(b, flo_ask(b->profile, b->profile_length, marks, state, length, b->received, data_length, &b->lost, b->reasons, &b->place));
+}
+
 static uint32_t ask(struct block *b, uint16_t marks) {
-    return flo_ask(b->profile, b->profile_length, marks, b->state, FLO_STATE, b->received, b->data_length, &b->lost, b->reasons);
+    return ask_state(b, marks, b->state, FLO_STATE, b->data_length);
 }
 
 static int came_back(const struct block *b) {
@@ -152,14 +196,12 @@ static void test_round_trip(int mode, int k) {
     test("a profile's length", one.profile_length == (mode == 0 ? (size_t)FLO_MOST_PROFILE : 181));
     test("a block is sent", send_block(&one) == FLO_DONE);
     for (symbol = 0; symbol < (size_t)FLO_SYMBOLS(mode); symbol++) {
-        same = same && flo_send_symbol(one.profile, one.profile_length, one.data, one.data_length, symbol, firsts, FLO_SYMBOL_CELLS, seconds,
-                                       FLO_SYMBOL_CELLS) == FLO_DONE;
+        same = same && send_symbol(&one, symbol, firsts, seconds) == FLO_DONE;
         same = same && memcmp(firsts, one.firsts + symbol * FLO_SYMBOL_CELLS, sizeof firsts) == 0;
         same = same && memcmp(seconds, one.seconds + symbol * FLO_SYMBOL_CELLS, sizeof seconds) == 0;
     }
     test("each symbol alone is that part of the grid", same);
-    test("no symbol after the last", flo_send_symbol(one.profile, one.profile_length, one.data, one.data_length, symbol, firsts, FLO_SYMBOL_CELLS,
-                                                     seconds, FLO_SYMBOL_CELLS) == FLO_NO_SUCH_SYMBOL);
+    test("no symbol after the last", send_symbol(&one, symbol, firsts, seconds) == FLO_NO_SUCH_SYMBOL);
     test("it is received", receive(&one, 0) == FLO_DONE && came_back(&one) && no_answer(&one));
     memset(one.received, PAINT, sizeof one.received);
     test("as many packets as may be lost come back", receive(&one, marked) == FLO_DONE && came_back(&one) && one.lost == marked);
@@ -242,14 +284,14 @@ static void test_state(int mode, int k) {
     memset(b->state, 0, FLO_STATE);
     memset(state, 0, sizeof state);
     memcpy(state, bytes, sizeof bytes);
-    test("five cells", flo_feed(b->profile, b->profile_length, b->state, FLO_STATE, firsts, 5, seconds, 5) == FLO_DONE);
+    test("five cells", feed_lists(b, b->state, FLO_STATE, firsts, 5, seconds, 5) == FLO_DONE);
     test("their bytes", memcmp(b->state, state, FLO_STATE) == 0);
-    test("an empty piece", flo_feed(b->profile, b->profile_length, b->state, FLO_STATE, NULL, 0, NULL, 0) == FLO_DONE);
-    test("unequal lists", flo_feed(b->profile, b->profile_length, b->state, FLO_STATE, firsts, 2, seconds, 3) == FLO_CELLS_LENGTH);
-    test("one list empty", flo_feed(b->profile, b->profile_length, b->state, FLO_STATE, firsts, 2, NULL, 0) == FLO_CELLS_LENGTH);
+    test("an empty piece", feed_lists(b, b->state, FLO_STATE, NULL, 0, NULL, 0) == FLO_DONE);
+    test("unequal lists", feed_lists(b, b->state, FLO_STATE, firsts, 2, seconds, 3) == FLO_CELLS_LENGTH);
+    test("one list empty", feed_lists(b, b->state, FLO_STATE, firsts, 2, NULL, 0) == FLO_CELLS_LENGTH);
     send_block(b);
     test("a cell too many", feed(b, 4, cells - 4) == FLO_TOO_MANY_CELLS);
-    test("far too many", flo_feed(b->profile, b->profile_length, b->state, FLO_STATE, many, 65536, many, 65536) == FLO_TOO_MANY_CELLS);
+    test("far too many", feed_lists(b, b->state, FLO_STATE, many, 65536, many, 65536) == FLO_TOO_MANY_CELLS);
     test("too early a question", ask(b, 0xFFFF) == FLO_CELLS_MISSING && no_answer(b) && is_painted(b->received, sizeof b->received));
     b->data_length -= 1;
     test("and with too short a room", ask(b, 0xFFFF) == FLO_DATA_LENGTH && no_answer(b) && is_painted(b->received, sizeof b->received));
@@ -267,9 +309,8 @@ static int no_such_state(struct block *b, uint8_t *state, size_t length) {
     memcpy(kept, state, sizeof kept);
     b->lost = 0xA5A5;
     memset(b->reasons, PAINT, sizeof b->reasons);
-    return flo_feed(b->profile, b->profile_length, lent, length, b->firsts, 1, b->seconds, 2) == FLO_NO_SUCH_STATE &&
-           flo_ask(b->profile, b->profile_length, 0xFFFF, lent, length, b->received, 1, &b->lost, b->reasons) == FLO_NO_SUCH_STATE &&
-           no_answer(b) && memcmp(kept, state, sizeof kept) == 0;
+    return feed_lists(b, lent, length, b->firsts, 1, b->seconds, 2) == FLO_NO_SUCH_STATE &&
+           ask_state(b, 0xFFFF, lent, length, 1) == FLO_NO_SUCH_STATE && no_answer(b) && memcmp(kept, state, sizeof kept) == 0;
 }
 
 /* A byte of the state changed, and put back. */
@@ -299,12 +340,11 @@ static void test_spoilt(int mode, int k) {
     test("the state's last byte", no_such_byte(b, state, FLO_STATE - 1, 1));
     test("fewer cells than have bytes", no_such_byte(b, state, 0, 7));
     test("more cells than there are", no_such_byte(b, state, 0, (int)(cells / 256) + 1) && no_such_byte(b, state, 0, 255));
-    test("the state itself", flo_feed(b->profile, b->profile_length, state, FLO_STATE, b->firsts + 2048, cells - 2048, b->seconds + 2048,
-                                      cells - 2048) == FLO_DONE);
+    test("the state itself", feed_lists(b, state, FLO_STATE, b->firsts + 2048, cells - 2048, b->seconds + 2048, cells - 2048) == FLO_DONE);
     memcpy(b->state, state, FLO_STATE);
     test("a copy of the state", ask(b, 0) == FLO_DONE && came_back(b));
     b->mode ^= 1;
-    write_profile(b, 0.5f);
+    write_profile(b);
     test("a full state in the other mode", mode == 0 ? no_such_state(b, state, FLO_STATE) : ask(b, 0) == FLO_CELLS_MISSING);
 }
 
@@ -316,7 +356,7 @@ static int is_refused(struct block *b, uint32_t number) {
     unsigned i;
     memset(masks, PAINT, sizeof masks);
     memset(seeds, PAINT, sizeof seeds);
-    if (flo_read_profile(b->profile, b->profile_length, masks, &level, &mode, &k, seeds) != number) return 0;
+    if (placed(b, flo_read_profile(b->profile, b->profile_length, masks, &level, &mode, &k, seeds, &b->place)) != number) return 0;
     for (i = 0; i < FLO_MASKS; i++) sum |= masks[i];
     for (i = 0; i < FLO_SEEDS; i++) sum |= seeds[i];
     b->lost = 0xA5A5;
@@ -325,7 +365,8 @@ static int is_refused(struct block *b, uint32_t number) {
     b->lost = 0xA5A5;
     memset(b->reasons, PAINT, sizeof b->reasons);
     if (ask(b, 0xFFFF) != number || !no_answer(b)) return 0;
-    return sum == 0 && mode == 0 && k == 0 && level == 0.0f && send_block(b) == number && feed(b, 0, 1) == number &&
+    return sum == 0 && mode == 0 && k == 0 && level == 0.0f && send_block(b) == number && send_symbol(b, 0, b->firsts, b->seconds) == number &&
+           feed(b, 0, 1) == number &&
            is_painted(b->firsts, sizeof b->firsts) && is_painted(b->seconds, sizeof b->seconds) && is_painted(b->received, sizeof b->received) &&
            is_painted(b->state, sizeof b->state);
 }
@@ -344,15 +385,8 @@ static void test_refusals(int mode, int k) {
     b->profile[2] = 33;
     test("a wrong length", is_refused(b, FLO_WRONG_LENGTH));
     begin(b, mode, k, 3);
-    b->profile[3] = 1;
-    test("a mask outside its range", is_refused(b, FLO_OUT_OF_RANGE));
-    begin(b, mode, k, 3);
     b->profile_length = 35;
     test("a profile that ends between fields", is_refused(b, FLO_FIELD_MISSING));
-    begin(b, mode, k, 3);
-    b->profile_length = 7;
-    memset(b->profile, PAINT, sizeof b->profile);
-    test("a level outside its range", write_profile(b, -1.0f) == FLO_OUT_OF_RANGE && b->profile_length == 0 && b->profile[0] == 0);
 
     begin(b, mode, k, 3);
     b->data_length -= 1;
@@ -365,10 +399,94 @@ static void test_refusals(int mode, int k) {
     test("lent memory is kept", is_painted(b->firsts, sizeof b->firsts) && is_painted(b->received, sizeof b->received));
 
     memset(block, PAINT, sizeof block);
-    test("parity of another k", flo_parity(9, block, FLO_BLOCK_BYTES) == FLO_OUT_OF_RANGE);
+    test("parity of another k", flo_parity(9, block, FLO_BLOCK_BYTES) == FLO_BAD_K);
     test("parity of another length", flo_parity(b->k, block, FLO_BLOCK_BYTES + 1) == FLO_DATA_LENGTH);
     test("the block is kept", is_painted(block, sizeof block));
     test("parity", flo_parity(b->k, block, FLO_BLOCK_BYTES) == FLO_DONE && is_painted(block, (size_t)k * FLO_PACKET_BYTES));
+}
+
+/* ---- numbers outside their range: which one is it, and where */
+
+/* In the profile's order: the number that names it, the byte where it begins, and what stands there. From 181 on, mode 1 has unused seeds. */
+static const struct fault {
+    uint32_t number;
+    size_t place;
+    uint32_t bad;
+} faults[] = {
+    {FLO_BAD_MASK, 3, 0}, {FLO_BAD_MASK, 15, 1048576}, {FLO_BAD_MASK, 31, 0xFFFFFFFF},
+    {FLO_BAD_LEVEL, 38, 0}, {FLO_BAD_LEVEL, 38, 0xBF000000}, {FLO_BAD_LEVEL, 38, 0x007FFFFF}, /* zero, -0.5, subnormal */
+    {FLO_BAD_LEVEL, 38, 0x7F800000}, {FLO_BAD_LEVEL, 38, 0x7FC00000},                         /* infinity, NaN */
+    {FLO_BAD_MODE, 45, 2}, {FLO_BAD_K, 49, 9},
+    {FLO_BAD_SEED, 53, 0}, {FLO_BAD_SEED, 113, 1048576}, {FLO_BAD_SEED, 177, 0},
+    {FLO_BAD_SEED, 181, 1048576}, {FLO_BAD_SEED, 213, 0x80000001}, {FLO_BAD_SEED, 241, 0xFFFFFFFF},
+};
+enum { FAULTS = sizeof faults / sizeof faults[0] };
+
+static void spoil_value(struct value *v, const struct fault *f) {
+    if (f->place < 35) v->masks[(f->place - 3) / 4] = f->bad;
+    else if (f->place == 38) memcpy(&v->level, &f->bad, sizeof v->level);
+    else if (f->place == 45) v->mode = (uint8_t)f->bad;
+    else if (f->place == 49) v->k = (uint8_t)f->bad;
+    else v->seeds[(f->place - 53) / 4] = f->bad;
+}
+
+static void spoil_bytes(struct block *b, const struct fault *f) {
+    const size_t size = f->place == 45 || f->place == 49 ? 1 : 4;
+    size_t i;
+    for (i = 0; i < size; i++) b->profile[f->place + i] = (uint8_t)(f->bad >> 8 * (size - 1 - i));
+}
+
+/* The value is refused by this number at this place, and nothing is written. */
+static int is_unwritten(struct block *b, const struct value *v, uint32_t number, size_t place) {
+    uint32_t sum = 0;
+    unsigned i;
+    memset(b->profile, PAINT, sizeof b->profile);
+    b->profile_length = 7;
+    b->due = place;
+    if (write_value(b, v) != number || b->profile_length != 0) return 0;
+    for (i = 0; i < FLO_MOST_PROFILE; i++) sum |= b->profile[i];
+    return sum == 0;
+}
+
+/* A value with two bad numbers, which may be one, and its bytes: the first is named. Bytes have no unused seeds. */
+static void test_pair(struct block *b, int mode, int k, const struct fault *first, const struct fault *second) {
+    struct value v;
+    begin(b, mode, k, 9);
+    v = good_value(b);
+    spoil_value(&v, second);
+    spoil_value(&v, first);
+    test("a bad number of a value", is_unwritten(b, &v, first->number, first->place));
+    begin(b, mode, k, 9);
+    if (first->place >= b->profile_length) return;
+    if (second->place < b->profile_length) spoil_bytes(b, second);
+    spoil_bytes(b, first);
+    b->due = first->place;
+    test("a bad number of a profile", is_refused(b, first->number));
+}
+
+static void test_faults(int mode, int k) {
+    struct block *b = &one;
+    unsigned i, j;
+    for (i = 0; i < FAULTS; i++)
+        for (j = i; j < FAULTS; j++) test_pair(b, mode, k, &faults[i], &faults[j]);
+    for (i = 0; i < FAULTS; i++) {
+        begin(b, mode, k, 9);
+        if (faults[i].place >= b->profile_length) continue;
+        spoil_bytes(b, &faults[i]);
+        b->due = faults[i].place;
+        b->profile[50] = 6;
+        test("a bad number and the last field's tag", is_refused(b, faults[i].place < 50 ? faults[i].number : (uint32_t)FLO_WRONG_TAG));
+        b->profile[2] = 33;
+        test("a bad number and the first field's length", is_refused(b, FLO_WRONG_LENGTH));
+    }
+    for (i = 32; i < FLO_SEEDS && mode == 1; i++) {
+        struct value v;
+        begin(b, mode, k, 9);
+        v = good_value(b);
+        v.seeds[i] = 1;
+        v.seeds[47] = 2;
+        test("an unused seed that isn't zero", is_unwritten(b, &v, FLO_BAD_SEED, 53 + 4 * (size_t)i));
+    }
 }
 
 /* ---- several threads at once: each has a block of its own, sends and receives it again and again, and must find what it found alone */
@@ -430,8 +548,7 @@ static void *call_send(void *number) {
 }
 
 static void *call_send_symbol(void *number) {
-    *(uint32_t *)number = flo_send_symbol(small.profile, small.profile_length, small.data, small.data_length, 0, small.firsts, FLO_SYMBOL_CELLS,
-                                          small.seconds, FLO_SYMBOL_CELLS);
+    *(uint32_t *)number = send_symbol(&small, 0, small.firsts, small.seconds);
     return number;
 }
 
@@ -455,12 +572,12 @@ static void *call_read_profile(void *number) {
     static uint32_t masks[FLO_MASKS], seeds[FLO_SEEDS];
     static float level;
     static uint8_t mode, k;
-    *(uint32_t *)number = flo_read_profile(small.profile, small.profile_length, masks, &level, &mode, &k, seeds);
+    *(uint32_t *)number = placed(&small, flo_read_profile(small.profile, small.profile_length, masks, &level, &mode, &k, seeds, &small.place));
     return number;
 }
 
 static void *call_write_profile(void *number) {
-    *(uint32_t *)number = write_profile(&small, 0.5f);
+    *(uint32_t *)number = write_profile(&small);
     return number;
 }
 
@@ -532,6 +649,7 @@ int main(void) {
         test_round_trip(i % 2, ks[i / 2]);
         test_damage(i % 2, ks[i / 2]);
         test_refusals(i % 2, ks[i / 2]);
+        test_faults(i % 2, ks[i / 2]);
         test_pieces(i % 2, ks[i / 2]);
         test_state(i % 2, ks[i / 2]);
         test_spoilt(i % 2, ks[i / 2]);

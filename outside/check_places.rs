@@ -1,0 +1,243 @@
+//! Which field is at fault and where: each number of a profile outside its range, as bytes and as a value; several of them; and beside faults
+//! of the headers.
+//!
+//! What must be said is known beforehand in nearly all of these cases, so that the plain program is tested as well.
+
+use crate::check_pieces::{spare, strange_case};
+use crate::check_profile::{expect, random_profile, write_case, written, KS, MODES, STARTS};
+use crate::check_receive::any_grid;
+use crate::check_send::{right_lengths, Sending};
+use crate::check_tools::{Random, Tally};
+use crate::plain::{Answer, Profile, BAD_K, BAD_LEVEL, BAD_MASK, BAD_MODE, BAD_SEED, STATE};
+
+/// A number of a profile.
+#[derive(Clone, Copy, PartialEq)]
+pub enum Spot {
+    Mask(usize),
+    Level,
+    Mode,
+    K,
+    Seed(usize),
+}
+use Spot::{Level, Mask, Mode, Seed, K};
+
+/// The first, one between and the last of each field. Mode 1 uses seeds 0 to 31, and of its unused ones these are again first, between, last.
+const SOME: [Spot; 12] =
+    [Mask(0), Mask(3), Mask(7), Level, Mode, K, Seed(0), Seed(15), Seed(31), Seed(32), Seed(40), Seed(47)];
+
+const BAD_STATES: [u32; 7] = [0, 1 << 20, (1 << 20) + 1, 1 << 24, 1 << 31, u32::MAX, 0xFFF0_0001];
+const BAD_UNUSED: [u32; 5] = [1, 5, (1 << 20) - 1, 1 << 20, u32::MAX];
+/// Zeros, subnormals, negatives, infinities and NaNs.
+const BAD_LEVELS: [u32; 14] = [
+    0, 0x8000_0000, 1, 0x0040_0000, 0x007F_FFFF, 0x807F_FFFF, 0x8080_0000, 0xBF80_0000, 0xFF7F_FFFF, 0x7F80_0000, 0xFF80_0000,
+    0x7F80_0001, 0x7FC0_0000, 0xFFFF_FFFF,
+];
+const BAD_MODES: [u32; 4] = [2, 3, 128, 255];
+const BAD_KS: [u32; 9] = [0, 2, 7, 9, 10, 11, 13, 16, 255];
+
+/// All numbers of a profile.
+fn all() -> impl Iterator<Item = Spot> {
+    (0..8).map(Mask).chain([Level, Mode, K]).chain((0..48).map(Seed))
+}
+
+impl Spot {
+    /// One in field f (from 0) of a profile that uses so many seeds.
+    pub fn any_in(random: &mut Random, f: usize, slots: usize) -> Spot {
+        [Mask(random.below(8)), Level, Mode, K, Seed(random.below(slots))][f]
+    }
+
+    fn field(self) -> usize {
+        match self {
+            Mask(_) => 0,
+            Level => 1,
+            Mode => 2,
+            K => 3,
+            Seed(_) => 4,
+        }
+    }
+
+    /// What is to be said when it is the first that is bad. Three bytes of tag and length stand before a field's value.
+    pub fn answer(self) -> Answer {
+        let before = if let Mask(i) | Seed(i) = self { 4 * i } else { 0 };
+        Answer { number: [BAD_MASK, BAD_LEVEL, BAD_MODE, BAD_K, BAD_SEED][self.field()], place: STARTS[self.field()] + 3 + before }
+    }
+
+    fn bad(self, slots: usize) -> &'static [u32] {
+        match self {
+            Seed(t) if t >= slots => &BAD_UNUSED,
+            Mask(_) | Seed(_) => &BAD_STATES,
+            Level => &BAD_LEVELS,
+            Mode => &BAD_MODES,
+            K => &BAD_KS,
+        }
+    }
+
+    /// Spoils the number in a profile's bytes.
+    pub fn spoil(self, random: &mut Random, slots: usize, bytes: &mut [u8]) {
+        self.put(bytes, random.pick(self.bad(slots)));
+    }
+
+    fn put(self, bytes: &mut [u8], bad: u32) {
+        let place = self.answer().place;
+        match self {
+            Mode | K => bytes[place] = bad as u8,
+            _ => bytes[place..place + 4].copy_from_slice(&bad.to_be_bytes()),
+        }
+    }
+
+    fn set(self, value: &mut Profile, bad: u32) {
+        match self {
+            Mask(i) => value.masks[i] = bad,
+            Level => value.level = f32::from_bits(bad),
+            Mode => value.mode = bad as u8,
+            K => value.k = bad as u8,
+            Seed(t) => value.seeds[t] = bad,
+        }
+    }
+}
+
+fn expect_value(tally: &mut Tally, known: Answer, label: &str, value: &Profile) {
+    let plain = write_case(tally, label, value);
+    tally.known(label, plain, known);
+}
+
+/// Spoils a right profile in these numbers, as a value and as bytes, and lets it be written and read: the first bad one is named. Bytes have no
+/// unused seeds.
+fn spoilt(tally: &mut Tally, label: &str, right: &Profile, bad: &[(Spot, u32)]) {
+    let (mut value, mut bytes) = (*right, written(right));
+    for &(spot, number) in bad {
+        spot.set(&mut value, number);
+        if spot.answer().place < bytes.len() {
+            spot.put(&mut bytes, number);
+        }
+    }
+    let first = bad.iter().map(|(spot, _)| spot.answer()).min_by_key(|answer| answer.place).unwrap();
+    expect_value(tally, first, label, &value);
+    expect(tally, if first.place < bytes.len() { first } else { 0.into() }, label, &bytes);
+}
+
+/// Each number alone, with every bad value of it.
+fn alone(tally: &mut Tally, right: &Profile) {
+    for spot in all() {
+        spot.bad(right.slots()).iter().for_each(|&bad| spoilt(tally, "one bad number", right, &[(spot, bad)]));
+    }
+    (2..=255).for_each(|mode| spoilt(tally, "any bad mode", right, &[(Mode, mode)]));
+    (0..=255).filter(|&k| !KS.contains(&(k as u8))).for_each(|k| spoilt(tally, "any bad K", right, &[(K, k)]));
+}
+
+/// All pairs of some, and more at once of all.
+fn together(random: &mut Random, tally: &mut Tally, right: &Profile) {
+    let mut run = |random: &mut Random, label: &str, spots: &[Spot]| {
+        let bad: Vec<(Spot, u32)> = spots.iter().map(|spot| (*spot, random.pick(spot.bad(right.slots())))).collect();
+        spoilt(tally, label, right, &bad);
+    };
+    for (one, other) in SOME.into_iter().flat_map(|one| SOME.map(|other| (one, other))) {
+        if one != other {
+            run(random, "two bad numbers", &[one, other]);
+        }
+    }
+    let all: Vec<Spot> = all().collect();
+    for _ in 0..200 {
+        let count = 2 + random.below(8);
+        let spots: Vec<Spot> = random.some(count, all.len()).into_iter().map(|i| all[i]).collect();
+        run(random, "many bad numbers", &spots);
+        let seeds: Vec<Spot> = random.some(count, 48).into_iter().map(Seed).collect();
+        run(random, "many bad seeds", &seeds);
+    }
+}
+
+/// Faults of field f but for its value: the bytes, and the number that they give where nothing before is wrong.
+fn headers(bytes: &[u8], f: usize) -> Vec<(Vec<u8>, u32)> {
+    let (start, end) = (STARTS[f], *STARTS.get(f + 1).unwrap_or(&bytes.len()));
+    let cut = [(start, 5), (start + 1, 1), (start + 2, 1), (start + 3, 1), (end - 1, 1)].map(|(cut, number)| (bytes[..cut].to_vec(), number));
+    let turned = [(start, 2), (start + 1, 3), (start + 2, 3)].map(|(place, number)| {
+        let mut bytes = bytes.to_vec();
+        bytes[place] ^= 8;
+        (bytes, number)
+    });
+    cut.into_iter().chain(turned).collect()
+}
+
+/// A bad number beside a fault of a header or an early end: what is wrong in an earlier field, or in the header or the length of the bad number's
+/// own, has its turn first, with place 0.
+fn beside_headers(random: &mut Random, tally: &mut Tally, right: &Profile) {
+    let length = written(right).len();
+    for spot in SOME.into_iter().filter(|spot| spot.answer().place < length) {
+        let mut bytes = written(right);
+        spot.spoil(random, right.slots(), &mut bytes);
+        for f in 0..5 {
+            for (bytes, number) in headers(&bytes, f) {
+                expect(tally, if f > spot.field() { spot.answer() } else { number.into() }, "a bad number and a header's fault", &bytes);
+            }
+        }
+        for surplus in 1..5 {
+            let more = random.bytes(surplus);
+            expect(tally, spot.answer(), "a bad number and surplus bytes", &[&bytes[..], &more].concat());
+        }
+    }
+}
+
+/// The mode says how many seeds are due: bad modes with the other mode's seeds, the other mode with these.
+fn other_modes(random: &mut Random, tally: &mut Tally, right: &Profile) {
+    let other = random_profile(random, 1 - right.mode, right.k);
+    for mode in BAD_MODES {
+        let mut bytes = written(&other);
+        Mode.put(&mut bytes, mode);
+        expect(tally, Mode.answer(), "a bad mode, the other one's seeds", &bytes);
+        expect_value(tally, Mode.answer(), "a bad mode, the other one's seeds", &Profile { mode: mode as u8, ..other });
+    }
+    let turned = Profile { mode: 1 - right.mode, ..*right };
+    expect_value(tally, Seed(32).answer(), "the other mode", &turned);
+    let mut bytes = written(right);
+    Mode.put(&mut bytes, turned.mode as u32);
+    expect(tally, 3.into(), "the other mode", &bytes);
+}
+
+/// Any numbers in any places of a value, near the ends of the ranges too.
+fn any_values(random: &mut Random, tally: &mut Tally, right: &Profile) {
+    let all: Vec<Spot> = all().collect();
+    for _ in 0..400 {
+        let mut value = *right;
+        for _ in 0..1 + random.below(3) {
+            let any = random.next() as u32;
+            let ends = [0, 1, 2, 8, 14, (1 << 20) - 1, 1 << 20, any >> 12, any, u32::MAX];
+            random.pick(&all).set(&mut value, random.pick(&ends));
+        }
+        write_case(tally, "any numbers", &value);
+    }
+}
+
+/// Every call that takes a profile's bytes, with all else right and with all else wrong: the profile has its turn first.
+fn each_call(random: &mut Random, tally: &mut Tally, spare: &[f32], right: &Profile) {
+    const LABEL: &str = "a bad number in a call's profile";
+    let mut receiving = any_grid(random, right.mode, right.k);
+    for lengths in [right_lengths(right, None), [0, 1, 2]] {
+        receiving = receiving.resize(random, lengths[0], lengths[1], lengths[2]);
+        for spot in SOME.into_iter().filter(|spot| spot.answer().place < written(right).len()) {
+            let mut bytes = written(right);
+            spot.spoil(random, right.slots(), &mut bytes);
+            expect(tally, spot.answer(), LABEL, &bytes);
+            Sending::new(random, LABEL, bytes.clone(), None, lengths).compare(tally);
+            Sending::new(random, LABEL, bytes.clone(), Some(0), right_lengths(right, Some(0))).compare(tally);
+            Sending::new(random, LABEL, bytes.clone(), Some(usize::MAX), lengths).compare(tally);
+            for state in [&[0; STATE][..], &[255; STATE], &[]] {
+                strange_case(random, tally, spare, &bytes, state, lengths[0]);
+            }
+            receiving.bytes = bytes;
+            receiving.compare(tally);
+        }
+    }
+}
+
+pub fn run(random: &mut Random, tally: &mut Tally) {
+    let spare = spare(random);
+    for (mode, k) in MODES.into_iter().flat_map(|mode| KS.map(|k| (mode, k))) {
+        let right = random_profile(random, mode, k);
+        alone(tally, &right);
+        together(random, tally, &right);
+        beside_headers(random, tally, &right);
+        other_modes(random, tally, &right);
+        any_values(random, tally, &right);
+        each_call(random, tally, &spare, &right);
+    }
+}
