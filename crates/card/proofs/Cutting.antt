@@ -9,6 +9,7 @@ use borrow.Author.Tests.{eq-eqb, le-ltb}
 use Rattle.rules.specs.Slots.{symbols}
 use Rattle.rules.specs.Block.{early, silence, ReceiveRule}
 use Rattle.rules.specs.Pieces.{seen, cellIn, asking, FeedRule, Fed, AskRule}
+use Rattle.rules.specs.declared.Answer.{Answer}
 use Rattle.rules.specs.declared.Profile.{Profile}
 use Rattle.rules.specs.declared.Receipt.{Receipt}
 use Rattle.receiving.proofs.Judgement.{kept-judged}
@@ -23,9 +24,9 @@ pub any-cutting : (P : Profile) (marks : ℕ) (f s : List Float) (state before a
 any-cutting P marks f s state before after a h all r =
     record {
       refused = λ ne.
-          let q = r .refused (λ z. ne (sym same ∙ z)) in
+          let q = r .refused (λ z. ne (sym (ap (λ (x : Answer). x .number) same) ∙ z)) in
           (q .0 ∙ ap silence same, q .1);
-      judged = λ z. kept-judged P marks (cellIn state) f s (λ c lt. w .come c (omega arith)) (r .judged (same ∙ z));
+      judged = λ z. kept-judged P marks (cellIn state) f s (λ c lt. w .come c (omega arith)) (r .judged (ap (λ (x : Answer). x .number) same ∙ z));
     }
   where
     cells : ℕ

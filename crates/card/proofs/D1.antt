@@ -1,6 +1,6 @@
 -- Demand 1: whatever arrives, the answer is a number of the table, and a refusal leaves the lent memory holding what it held.
-use mathlib.Core.Path.{_≡_, refl, sym, subst}
-use mathlib.Core.Bool.{Bool, true, false, not, _&&_}
+use mathlib.Core.Path.{_≡_, refl, sym, subst, _∙_}
+use mathlib.Core.Bool.{Bool, true, false, not}
 use mathlib.Core.List.{List}
 use Prim.Native.Nat.{ℕ, _*_, _<_}
 use native.Mathlib.Decide.{ℕ-discrete}
@@ -10,31 +10,22 @@ use Rattle.rules.specs.Bits.{pick, row, everyBelow}
 use Rattle.rules.specs.Outer.{marked}
 use Rattle.rules.specs.Slots.{packetBits, symbols, coded}
 use Rattle.rules.specs.Points.{doubtful}
-use Rattle.rules.specs.Profile.{inRange}
-use Rattle.rules.specs.Answers.{isNumber, isReason}
+use Rattle.rules.specs.Answers.{isNumber, isAnswer, isReason}
 use Rattle.rules.specs.Block.{early, Answered, Delivered, reason, judged, packetPart}
 use Rattle.rules.specs.Block.{checkRight, reservedRight, decidedData}
 use Rattle.rules.specs.Pieces.{asking}
 use Rattle.rules.specs.Demands.{D1}
+use Rattle.rules.specs.declared.Answer.{Answer}
 use Rattle.rules.specs.declared.Profile.{Profile}
 use Rattle.rules.specs.declared.Receipt.{Receipt}
 use Rattle.profile.proofs.RoundTrip.{read-number, write-told}
+use Rattle.profile.proofs.AtFault.{only-told, fault-told}
 use Rattle.receiving.proofs.States.{feeding-number, asking-number}
+use Rattle.card.proofs.Names.{lengths-each, symbol-each, symbol-answer}
 
-early-number : (P : Profile) (bytes firsts seconds cells : ℕ) → T (isNumber (early P bytes firsts seconds cells))
-early-number P bytes firsts seconds cells =
-    go (not (inRange P)) (not (eqb bytes (122 * P .k))) (not (eqb firsts cells && eqb seconds cells))
-  where
-    go : (a b c : Bool) → T (isNumber (pick a 4 (pick b 6 (pick c 7 0))))
-    go true b c = tt
-    go false true c = tt
-    go false false true = tt
-    go false false false = tt
-
-symbol-number : (a b : Bool) (n : ℕ) → T (isNumber n) → T (isNumber (pick a (pick b 0 8) n))
-symbol-number true true n h = tt
-symbol-number true false n h = tt
-symbol-number false b n h = h
+early-told : (P : Profile) (bytes firsts seconds cells : ℕ)
+    → (let a = early P bytes firsts seconds cells in T (isAnswer (a .number) (a .place)))
+early-told P bytes firsts seconds cells = fault-told P _ (lengths-each (λ n. T (isNumber n)) tt tt tt (P .k) bytes firsts seconds cells)
 
 reason-number : (m mark : ℕ) (v : ℕ → ℕ) → T (isReason (reason m mark v))
 unfolding reason judged
@@ -62,20 +53,20 @@ delivered-number (Delivered.noCodeword few j l none e) = (tt, λ ne. e)
 -- what the demand asks of an answer to receiving
 abbrev Told : List ℕ → List ℕ → Receipt → Type 0
 Told before after a =
-    T (isNumber (a .number)) × ((p : ℕ) → p < 16 → T (isReason (row (a .reasons) p))) × (¬ (a .number ≡ 0) → after ≡ before)
+    T (isAnswer (a .number) (a .place)) × ((p : ℕ) → p < 16 → T (isReason (row (a .reasons) p))) × (¬ (a .number ≡ 0) → after ≡ before)
 
 -- a refusal is silent, and else a judgement
-told : (P : Profile) (marks n : ℕ) (v : ℕ → ℕ) (before after : List ℕ) (a : Receipt)
-    → T (isNumber n)
+told : (P : Profile) (marks : ℕ) (n : Answer) (v : ℕ → ℕ) (before after : List ℕ) (a : Receipt)
+    → T (isAnswer (n .number) (n .place))
     → Answered P marks n v before after a
     → Told before after a
-told P marks n v before after a number r = go (ℕ-discrete n 0)
+told P marks n v before after a number r = go (ℕ-discrete (n .number) 0)
   where
-    go : Dec (n ≡ 0) → Told before after a
+    go : Dec (n .number ≡ 0) → Told before after a
     go (yes e) =
         let j = r .judged e in
         let d = delivered-number (j .delivered) in
-        (d .0, (λ p l. rw (j .reasons-are p l) (reason-number (P .mode) (marked marks p) (packetPart (P .mode) v p))), d .1)
+        (rw (j .place-is) (only-told (a .number) (d .0)), (λ p l. rw (j .reasons-are p l) (reason-number (P .mode) (marked marks p) (packetPart (P .mode) v p))), d .1)
     go (no ne) =
         let q = r .refused ne in
         let silent : (p : ℕ) → p < 16 → T (isReason (row (replicate 16 0) p)) = (λ p l. rw (getD-replicate {A = ℕ} 16 p 0 0 l) tt) in
@@ -84,18 +75,19 @@ told P marks n v before after a number r = go (ℕ-discrete n 0)
 pub d1 : D1
 d1 =
     record {
-      send = λ P d f s f' s' n r.
-          (rw (r .answer) (early-number P (length d) (length f) (length s) (4096 * symbols (P .mode))), r .kept);
-      send-symbol = λ P d symbol f s f' s' n r.
-          let e : ℕ = early P (length d) (length f) (length s) 4096 in
-          let good : T (isNumber e) = early-number P (length d) (length f) (length s) 4096 in
-          (rw (r .answer) (symbol-number (eqb e 0) (ltb symbol (symbols (P .mode))) e good), r .kept);
+      send = λ P d f s f' s' a r.
+          (rw (r .answer) (early-told P (length d) (length f) (length s) (4096 * symbols (P .mode))), r .kept);
+      send-symbol = λ P d symbol f s f' s' a r. (
+        rw (r .answer ∙ symbol-answer P (length d) (length f) (length s) symbol (symbols (P .mode)))
+            (fault-told P _ (symbol-each (λ n. T (isNumber n)) tt tt tt tt (P .k) (length d) (length f) (length s) symbol (symbols (P .mode)))),
+        r .kept,
+      );
       receive = λ P marks f s before after a.
           told P marks (early P (length before) (length f) (length s) (4096 * symbols (P .mode))) _ before after a
-          (early-number P (length before) (length f) (length s) (4096 * symbols (P .mode)));
-      feed = λ P f s before after n r. (rw (r .answer) (feeding-number P before (length f) (length s)), r .kept);
+          (early-told P (length before) (length f) (length s) (4096 * symbols (P .mode)));
+      feed = λ P f s before after a r. (rw (r .answer) (fault-told P _ (feeding-number P before (length f) (length s))), r .kept);
       ask = λ P marks state before after a.
-          told P marks (asking P state (length before)) _ before after a (asking-number P state (length before));
+          told P marks (asking P state (length before)) _ before after a (fault-told P _ (asking-number P state (length before)));
       read = read-number;
       write = write-told;
     }

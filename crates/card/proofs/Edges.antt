@@ -1,7 +1,7 @@
 -- The demands at the ends of their bounds, by numbers written out here: the last packet, byte, bit and cell, three wrong bits, as many lost as there is
 -- parity, and one more. A demand with a narrower bound would not give these.
 use mathlib.Core.Path.{_≡_, refl, sym, ap, ap₂, _∙_}
-use mathlib.Core.Bool.{Bool, true, false}
+use mathlib.Core.Bool.{true}
 use mathlib.Core.List.{List}
 use mathlib.Core.Logic.{_⊎_, _↔_}
 use Prim.Native.Nat.{ℕ, suc, _+_, _-_, _*_, _/_, _%_, _<_, _≤_}
@@ -14,13 +14,15 @@ use Rattle.rules.specs.Bits.{row, differ}
 use Rattle.rules.specs.Outer.{marked}
 use Rattle.rules.specs.Slots.{packetBits, symbols}
 use Rattle.rules.specs.Points.{zeroPart, firstPart, secondPart}
-use Rattle.rules.specs.Profile.{inRange}
+use Rattle.rules.specs.Profile.{only, inRange}
 use Rattle.rules.specs.Answers.{isReason}
 use Rattle.rules.specs.Block.{Cells, sentCell, SendRule, SendSymbolRule, Accepted, ReceiveRule}
-use Rattle.rules.specs.Pieces.{seen, isState, asking, FeedRule, AskRule, Fed}
+use Rattle.rules.specs.Pieces.{seen, isState, askingNumber, asking, FeedRule, AskRule, Fed}
 use Rattle.rules.specs.Demands.{bitInPlace, heardInPlace, sentInPlace, Doubtful, Lost, Members}
+use Rattle.rules.specs.declared.Answer.{Answer}
 use Rattle.rules.specs.declared.Profile.{Profile}
 use Rattle.rules.specs.declared.Receipt.{Receipt}
+use Rattle.profile.proofs.AtFault.{or-fine}
 use Rattle.receiving.proofs.States.{is-state, passes}
 use Rattle.receiving.proofs.Fed.{Left, fed-left, left-state}
 use Rattle.card.proofs.D1.{d1}
@@ -40,55 +42,50 @@ last-asked P marks state before after a r = d1 .ask P marks state before after a
 
 -- after pieces that were fed, and with a profile in its range
 module _ (P : Profile) (f s : List Float) (state : List ℕ) (t : T (inRange P)) (h : Fed (FeedRule P) f s state) where
-  range : inRange P ≡ true
-  range = sym (said (inRange P) t)
-    where
-      said : (b : Bool) → T b → true ≡ b
-      said true u = refl
-      said false u = absurd u
-
   left : Left P f s state
   left = fed-left P h
 
   good : isState (4096 * symbols (P .mode)) state ≡ true
   good = sym (passes _ state (is-state _ state .0 (left-state P left)))
 
-  module _ (f' s' : List Float) (after : List ℕ) (n : ℕ) (r : FeedRule P f' s' state after n) where
+  module _ (f' s' : List Float) (after : List ℕ) (a : Answer) (r : FeedRule P f' s' state after a) where
     -- the piece that ends with the grid's last cell is taken, and one of a cell more is 16
-    pub to-the-end : length f' ≡ length s' → length f + length f' ≡ 4096 * symbols (P .mode) → n ≡ 0
-    to-the-end e q = d2 .takes P f s f' s' state after n t h r .1 (e, omega arith)
+    pub to-the-end : length f' ≡ length s' → length f + length f' ≡ 4096 * symbols (P .mode) → a .number ≡ 0
+    to-the-end e q = d2 .takes P f s f' s' state after a t h r .1 (e, omega arith)
 
-    pub one-cell-past : length f' ≡ length s' → length f + length f' ≡ 4096 * symbols (P .mode) + 1 → n ≡ 16
+    pub one-cell-past : length f' ≡ length s' → length f + length f' ≡ 4096 * symbols (P .mode) + 1 → a ≡ only 16
     one-cell-past e q =
         let past : 4096 * symbols (P .mode) < seen state + length f' = omega (arith, left .firsts) in
-        r .answer ∙ rw (range, good, eq-eqb _ _ e, lt-ltb _ _ past)
+        r .answer ∙ or-fine P _ t ∙ ap only (rw (good, eq-eqb _ _ e, lt-ltb _ _ past))
 
     -- lists of two lengths are 7, also past the end
-    pub unequal : ¬ (length f' ≡ length s') → n ≡ 7
-    unequal ne = r .answer ∙ rw (range, good, ne-eqb _ _ ne)
+    pub unequal : ¬ (length f' ≡ length s') → a ≡ only 7
+    unequal ne = r .answer ∙ or-fine P _ t ∙ ap only (rw (good, ne-eqb _ _ ne))
 
   module _ (marks : ℕ) (before after : List ℕ) (a : Receipt) (r : AskRule P marks state before after a) where
     -- a number other than 0 that comes first is the answer's
-    said-first : (q : ℕ) → ¬ (q ≡ 0) → asking P state (length before) ≡ q → a .number ≡ q
-    said-first q ne e = ap (λ (b : Receipt). b .number) (r .refused (λ z. ne (sym e ∙ z)) .0) ∙ e
+    said-first : (q : ℕ) → ¬ (q ≡ 0) → askingNumber (P .mode) (P .k) state (length before) ≡ q → a .number ≡ q
+    said-first q ne e =
+        let first : asking P state (length before) .number ≡ q = ap (λ (b : Answer). b .number) (or-fine P _ t) ∙ e in
+        ap (λ (b : Receipt). b .number) (r .refused (λ z. ne (sym first ∙ z)) .0) ∙ first
 
     -- a wrong room is 6, also where cells are missing; with all cells but one it is 17
     pub wrong-room : ¬ (length before ≡ 122 * P .k) → a .number ≡ 6
-    wrong-room ne = said-first 6 (λ z. omega arith) (rw (range, good, ne-eqb _ _ ne))
+    wrong-room ne = said-first 6 (λ z. omega arith) (rw (good, ne-eqb _ _ ne))
 
     pub one-cell-early : length before ≡ 122 * P .k → length f + 1 ≡ 4096 * symbols (P .mode) → a .number ≡ 17
     one-cell-early e q =
         let early : seen state < 4096 * symbols (P .mode) = omega (arith, left .firsts) in
-        said-first 17 (λ z. omega arith) (rw (range, good, eq-eqb _ _ e, lt-ltb _ _ early))
+        said-first 17 (λ z. omega arith) (rw (good, eq-eqb _ _ e, lt-ltb _ _ early))
 
 -- cell 4095 of the last symbol y is the rules'
 pub last-cell : (P : Profile) (d : List ℕ) (f s f' s' : List Float) (y : ℕ)
-    → SendRule P d f s f' s' 0
+    → SendRule P d f s f' s' (only 0)
     → symbols (P .mode) ≡ suc y
     → (getD f' (4096 * y + 4095) zeroPart ≡ firstPart (sentCell P d y 4095))
     × (getD s' (4096 * y + 4095) zeroPart ≡ secondPart (sentCell P d y 4095))
 last-cell P d f s f' s' y r e =
-    let c = d2 .cells P d f s f' s' 0 r refl in
+    let c = d2 .cells P d f s f' s' (only 0) r refl in
     let at : 4096 * y + 4095 < 4096 * symbols (P .mode) = omega arith in
     let symbol : 0 + (4096 * y + 4095) / 4096 ≡ y = omega arith in
     let place : (4096 * y + 4095) % 4096 ≡ 4095 = omega arith in
@@ -96,8 +93,8 @@ last-cell P d f s f' s' y r e =
     (c .firsts-are (4096 * y + 4095) at ∙ ap firstPart cell, c .seconds-are (4096 * y + 4095) at ∙ ap secondPart cell)
 
 pub last-alone : (P : Profile) (d : List ℕ) (symbol : ℕ) (f s f' s' F S F' S' : List Float)
-    → SendSymbolRule P d symbol f s f' s' 0
-    → SendRule P d F S F' S' 0
+    → SendSymbolRule P d symbol f s f' s' (only 0)
+    → SendRule P d F S F' S' (only 0)
     → (getD f' 4095 zeroPart ≡ getD F' (4096 * symbol + 4095) zeroPart) × (getD s' 4095 zeroPart ≡ getD S' (4096 * symbol + 4095) zeroPart)
 last-alone P d symbol f s f' s' F S F' S' one all = d2 .symbol-of-grid P d symbol f s f' s' F S F' S' 4095 one all (lit< tt)
 

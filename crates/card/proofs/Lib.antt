@@ -2,6 +2,7 @@ pub mod Mask
 pub mod Differ
 pub mod Place
 pub mod Few
+pub mod Names
 pub mod D1
 pub mod Cutting
 pub mod D2

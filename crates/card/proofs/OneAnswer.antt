@@ -14,6 +14,7 @@ use Rattle.rules.specs.Slots.{symbols}
 use Rattle.rules.specs.Profile.{inRange}
 use Rattle.rules.specs.Block.{early, decided, packetPart, decidedData, byteOf, lostMask, Delivered, Judged, Answered, ReceiveRule}
 use Rattle.rules.specs.Pieces.{asking, AskRule}
+use Rattle.rules.specs.declared.Answer.{Answer}
 use Rattle.rules.specs.declared.Profile.{Profile}
 use Rattle.rules.specs.declared.Receipt.{Receipt}
 use Rattle.outer.proofs.Roots.{k-range, rate as outer-rate}
@@ -61,7 +62,7 @@ module _ (P : Profile) (marks : ℕ) (before : List ℕ) where
       let other : Delivered (P .k) (a .lost) kept before after' (b .number)
       = subst (λ (l : ℕ). Delivered (P .k) l kept before after' (b .number)) (sym lost) (y .delivered) in
       let out = one-delivery (ranges P t .k) fits (x .delivered) other in
-      ((λ i. record { number = out .0 i; lost = lost i; reasons = reasons i }), out .1)
+      ((λ i. record { number = out .0 i; place = (x .place-is ∙ sym (y .place-is)) i; lost = lost i; reasons = reasons i }), out .1)
     where
       reasons : a .reasons ≡ b .reasons
       reasons =
@@ -75,13 +76,13 @@ module _ (P : Profile) (marks : ℕ) (before : List ℕ) where
       fits = subst (λ (l : ℕ). l < 2 ^ 16) (sym (x .lost-is)) (mask-lt (row (a .reasons)) 16)
 
   -- a refusal is silent, and else the same bits are judged
-  one-answer : (n : ℕ) → (n ≡ 0 → T (inRange P)) → (v : ℕ → ℕ) (after after' : List ℕ) (a b : Receipt)
+  one-answer : (n : Answer) → (n .number ≡ 0 → T (inRange P)) → (v : ℕ → ℕ) (after after' : List ℕ) (a b : Receipt)
       → Answered P marks n v before after a
       → Answered P marks n v before after' b
       → (a ≡ b) × (after ≡ after')
-  one-answer n range v after after' a b x y = go (ℕ-discrete n 0)
+  one-answer n range v after after' a b x y = go (ℕ-discrete (n .number) 0)
     where
-      go : Dec (n ≡ 0) → (a ≡ b) × (after ≡ after')
+      go : Dec (n .number ≡ 0) → (a ≡ b) × (after ≡ after')
       go (yes e) = one-judgement v after after' a b (range e) (x .judged e) (y .judged e)
       go (no ne) =
           let p = x .refused ne in

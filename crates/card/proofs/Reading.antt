@@ -1,40 +1,35 @@
 -- When receiving reads the cells, what it leaves where it doesn't, and that it looks at the block's own cells only.
 use mathlib.Core.Path.{_≡_, refl, sym, ap, ap₂, _∙_}
-use mathlib.Core.Bool.{Bool, true, false, not, _&&_}
 use mathlib.Core.List.{List}
 use mathlib.Core.Logic.{_↔_}
 use Prim.Native.Nat.{ℕ, _*_, _/_, _%_, _<_}
 use native.Mathlib.Omega.{arith}
-use lib.Dec.{T, eqb}
+use lib.Dec.{T}
 use lib.Ieee.{Float}
 use lib.ListN.{length, replicate}
-use Rattle.rules.specs.Bits.{pick}
 use Rattle.rules.specs.Slots.{slotBits, slots, symbols}
 use Rattle.rules.specs.Profile.{inRange}
 use Rattle.rules.specs.Answers.{hasRead}
 use Rattle.rules.specs.Block.{early, heard, decided, silence, Accepted, Answered, ReceiveRule}
+use Rattle.rules.specs.declared.Answer.{Answer}
 use Rattle.rules.specs.declared.Profile.{Profile}
 use Rattle.rules.specs.declared.Receipt.{Receipt}
+use Rattle.profile.proofs.AtFault.{or-unread}
 use Rattle.block.proofs.Passed.{early-right}
 use Rattle.receiving.proofs.Judgement.{again, judged-same}
 use Rattle.receiving.proofs.Fed.{delivered-read, read-first}
+use Rattle.card.proofs.Names.{lengths-each}
 use Rattle.card.proofs.OneAnswer.{one-receipt}
 
 -- of the numbers that come first only 0 is one at which the cells are read
 early-read : (P : Profile) (bytes firsts seconds cells : ℕ)
-    → ¬ (early P bytes firsts seconds cells ≡ 0)
-    → ¬ T (hasRead (early P bytes firsts seconds cells))
+    → ¬ (early P bytes firsts seconds cells .number ≡ 0)
+    → ¬ T (hasRead (early P bytes firsts seconds cells .number))
 early-read P bytes firsts seconds cells =
-    go (not (inRange P)) (not (eqb bytes (122 * P .k))) (not (eqb firsts cells && eqb seconds cells))
-  where
-    go : (a b c : Bool) → ¬ (pick {A = ℕ} a 4 (pick b 6 (pick c 7 0)) ≡ 0) → ¬ T (hasRead (pick a 4 (pick b 6 (pick c 7 0))))
-    go true b c ne t = t
-    go false true c ne t = t
-    go false false true ne t = t
-    go false false false ne t = ne refl
+    or-unread P _ (lengths-each (λ n. ¬ (n ≡ 0) → ¬ T (hasRead n)) (λ ne t. t) (λ ne t. t) (λ ne t. ne refl) (P .k) bytes firsts seconds cells)
 
 -- where no cells are read, nothing is said of the packets
-pub nothing-accepted : (P : Profile) (marks n : ℕ) (v : ℕ → ℕ) (before after : List ℕ) (a : Receipt)
+pub nothing-accepted : (P : Profile) (marks : ℕ) (n : Answer) (v : ℕ → ℕ) (before after : List ℕ) (a : Receipt)
     → Answered P marks n v before after a
     → ¬ T (hasRead (a .number))
     → (a .lost ≡ 0) × (a .reasons ≡ replicate 16 0) × ((p : ℕ) → ¬ Accepted a p)
@@ -60,9 +55,9 @@ module _ (P : Profile) (marks : ℕ) (f s f' s' : List Float) (before : List ℕ
   received-as after a r =
       record {
         refused = λ ne.
-            let q = r .refused (λ z. ne (sym same ∙ z)) in
+            let q = r .refused (λ z. ne (sym (ap (λ (x : Answer). x .number) same) ∙ z)) in
             (q .0 ∙ ap silence same, q .1);
-        judged = λ z. judged-same P marks (decided P f s) (decided P f' s') bit (r .judged (same ∙ z));
+        judged = λ z. judged-same P marks (decided P f s) (decided P f' s') bit (r .judged (ap (λ (x : Answer). x .number) same ∙ z));
       }
     where
       same : early P (length before) (length f) (length s) (4096 * symbols (P .mode))

@@ -10,6 +10,7 @@ use lib.Dec.{T, eqb, leb, eqb→eq}
 use lib.Ieee.Bits.{is-true}
 use lib.Ieee.Fits.{and-i, eq→eqb}
 use Rattle.rules.specs.Answers.{isNumber, namesField, isAnswer, hasRead}
+use Rattle.rules.specs.Bits.{pick}
 use Rattle.rules.specs.Demands.{Names}
 use Rattle.rules.specs.Profile.{fields, only, _or_, fault, inRange}
 use Rattle.rules.specs.declared.Answer.{Answer}
@@ -97,6 +98,21 @@ pub or-unread : (P : Profile) (n : ℕ) → (¬ (n ≡ 0) → ¬ T (hasRead n))
 or-unread P n unread =
     ⊎-elim (λ w. rw (or-fine P n (w .range)) unread) (λ w ne. rw (or-faulty P n (w .outside)) (named-unread (fault P .number) (w .named)))
     (by-fault P)
+
+-- of three answers the first one comes first, however they are put together; and two numbers that name no field are one
+pub or-assoc : (a b c : Answer) → (a or b) or c ≡ a or (b or c)
+or-assoc a b c = go (eqb (a .number) 0) refl
+  where
+    go : (z : Bool) → eqb (a .number) 0 ≡ z → pick z b a or c ≡ pick z (b or c) a
+    go true e = refl
+    go false e = rw e
+
+pub only-or : (n m : ℕ) → only n or only m ≡ only (pick (eqb n 0) m n)
+only-or n m = go (eqb n 0)
+  where
+    go : (z : Bool) → pick z (only m) (only n) ≡ only (pick z m n)
+    go true = refl
+    go false = refl
 
 named-number : (n : ℕ) → T (namesField n) → T (isNumber n)
 named-number n t = go (leb n 3 || leb 5 n && leb n 10 || eqb n 16 || eqb n 17 || eqb n 22) (namesField n) t
