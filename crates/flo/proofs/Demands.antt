@@ -7,22 +7,23 @@ use native.Mathlib.Decide.{ℕ-discrete}
 use lib.Dec.{T, eqb}
 use lib.ListN.{length, getD-replicate}
 use Rattle.rules.specs.Bits.{pick, row}
-use Rattle.rules.specs.Answers.{isNumber, isReason}
+use Rattle.rules.specs.Answers.{isNumber, isAnswer, isReason}
 use Rattle.rules.specs.Outer.{isK}
 use Rattle.rules.specs.Profile.{reading}
+use Rattle.rules.specs.declared.Answer.{Answer}
 use Rattle.rules.specs.declared.Profile.{Profile}
 use Rattle.rules.specs.declared.Writing.{Writing}
 use Rattle.rules.specs.declared.Receipt.{Receipt}
 use Rattle.outer.proofs.Answers.{one-parity}
 use Rattle.card.proofs.D1.{d1}
 use Rattle.card.proofs.D2.{d2}
-use Rattle.flo.specs.Calls.{AfterReading, Unread}
+use Rattle.flo.specs.Calls.{AfterReading, refusal, receiptOf, Unread}
 use Rattle.flo.specs.Demands.{CallsTold, CallsOne}
 
 -- by cases: reading is refused, or the call's rule holds of the profile that was read
-pub by-reading : (profile : List ℕ) {Refused : ℕ → Type 0} {Rule : Profile → Type 0} (Goal : Type 0)
+pub by-reading : (profile : List ℕ) {Refused : Answer → Type 0} {Rule : Profile → Type 0} (Goal : Type 0)
     → AfterReading profile Refused Rule
-    → (Refused (reading profile .number) → Goal)
+    → (Refused (refusal profile) → Goal)
     → (Rule (reading profile .profile) → Goal)
     → Goal
 by-reading profile Goal r unread read = go (ℕ-discrete (reading profile .number) 0)
@@ -32,10 +33,10 @@ by-reading profile Goal r unread read = go (ℕ-discrete (reading profile .numbe
     go (no ne) = unread (r .unread ne)
 
 -- the same of two answers to one call
-both-reading : (profile : List ℕ) {Refused Refused' : ℕ → Type 0} {Rule Rule' : Profile → Type 0} (Goal : Type 0)
+both-reading : (profile : List ℕ) {Refused Refused' : Answer → Type 0} {Rule Rule' : Profile → Type 0} (Goal : Type 0)
     → AfterReading profile Refused Rule
     → AfterReading profile Refused' Rule'
-    → (Refused (reading profile .number) → Refused' (reading profile .number) → Goal)
+    → (Refused (refusal profile) → Refused' (refusal profile) → Goal)
     → (Rule (reading profile .profile) → Rule' (reading profile .profile) → Goal)
     → Goal
 both-reading profile Goal x y unread read = go (ℕ-discrete (reading profile .number) 0)
@@ -44,28 +45,28 @@ both-reading profile Goal x y unread read = go (ℕ-discrete (reading profile .n
     go (yes z) = read (x .read z) (y .read z)
     go (no ne) = unread (x .unread ne) (y .unread ne)
 
--- the number of reading is in the table
-read-told : (profile : List ℕ) (n : ℕ) → n ≡ reading profile .number → T (isNumber n)
-read-told profile n e = subst (λ (m : ℕ). T (isNumber m)) (sym e) (d1 .read profile .0)
+-- what reading answers is an answer
+read-told : (profile : List ℕ) (a : Answer) → a ≡ refusal profile → T (isAnswer (a .number) (a .place))
+read-told profile a e = subst (λ (m : Answer). T (isAnswer (m .number) (m .place))) (sym e) (d1 .read profile .0)
 
 -- a receive or a question with an unread profile
-unread-told : (profile before after : List ℕ) (lost : ℕ) (reasons : List ℕ) (n : ℕ)
-    → Unread before after lost reasons n (reading profile .number)
-    → T (isNumber n) × ((p : ℕ) → p < 16 → T (isReason (row reasons p))) × (¬ (n ≡ 0) → after ≡ before)
-unread-told profile before after lost reasons n q =
-    (read-told profile n (q .0), (λ p l. rw (q .2, getD-replicate {A = ℕ} 16 p 0 0 l) tt), λ _. q .3)
+unread-told : (profile before after : List ℕ) (lost : ℕ) (reasons : List ℕ) (a : Answer)
+    → Unread before after lost reasons a (refusal profile)
+    → T (isAnswer (a .number) (a .place)) × ((p : ℕ) → p < 16 → T (isReason (row reasons p))) × (¬ (a .number ≡ 0) → after ≡ before)
+unread-told profile before after lost reasons a q =
+    (read-told profile a (q .0), (λ p l. rw (q .2, getD-replicate {A = ℕ} 16 p 0 0 l) tt), λ _. q .3)
 
 -- one receipt, field by field
 fields : {a b : Receipt} {after after' : List ℕ} → (a ≡ b) × (after ≡ after')
-    → (a .number ≡ b .number) × (a .lost ≡ b .lost) × (a .reasons ≡ b .reasons) × (after ≡ after')
+    → (_≡_ {A = Answer} (record { number = a .number; place = a .place }) (record { number = b .number; place = b .place })) × (a .lost ≡ b .lost) × (a .reasons ≡ b .reasons) × (after ≡ after')
 fields e = (
-  ap (λ (x : Receipt). x .number) (e .0),
+  ap (λ (x : Receipt). record { number = x .number; place = x .place }) (e .0),
   ap (λ (x : Receipt). x .lost) (e .0),
   ap (λ (x : Receipt). x .reasons) (e .0),
   e .1,
 )
 
-parity-number : (b c : Bool) → T (isNumber (pick b 4 (pick c 6 0)))
+parity-number : (b c : Bool) → T (isNumber (pick b 43 (pick c 6 0)))
 parity-number true c = tt
 parity-number false true = tt
 parity-number false false = tt
@@ -73,21 +74,21 @@ parity-number false false = tt
 pub calls-told : CallsTold
 calls-told =
     record {
-      send = λ profile d f s f' s' n r.
-          by-reading profile _ r (λ q. (read-told profile n (q .0), λ _. (q .1, q .2))) (d1 .send _ d f s f' s' n);
-      send-symbol = λ profile d symbol f s f' s' n r.
-          by-reading profile _ r (λ q. (read-told profile n (q .0), λ _. (q .1, q .2))) (d1 .send-symbol _ d symbol f s f' s' n);
-      receive = λ profile marks f s before after lost reasons n r.
-          by-reading profile _ r (unread-told profile before after lost reasons n)
-          (d1 .receive _ marks f s before after (record { number = n; lost = lost; reasons = reasons }));
-      feed = λ profile f s before after n r.
-          by-reading profile _ r (λ q. (read-told profile n (q .0), λ _. q .1)) (d1 .feed _ f s before after n);
-      ask = λ profile marks state before after lost reasons n r.
-          by-reading profile _ r (unread-told profile before after lost reasons n)
-          (d1 .ask _ marks state before after (record { number = n; lost = lost; reasons = reasons }));
-      read-profile = λ profile masks level mode k seeds n r. read-told profile n (r .number);
-      write-profile = λ masks level mode k seeds profile count n r.
-          subst (λ (w : Writing). T (isNumber (w .number))) (r .answer) (d1 .write _ .0);
+      send = λ profile d f s f' s' a r.
+          by-reading profile _ r (λ q. (read-told profile a (q .0), λ _. (q .1, q .2))) (d1 .send _ d f s f' s' a);
+      send-symbol = λ profile d symbol f s f' s' a r.
+          by-reading profile _ r (λ q. (read-told profile a (q .0), λ _. (q .1, q .2))) (d1 .send-symbol _ d symbol f s f' s' a);
+      receive = λ profile marks f s before after lost reasons a r.
+          by-reading profile _ r (unread-told profile before after lost reasons a)
+          (d1 .receive _ marks f s before after (receiptOf a lost reasons));
+      feed = λ profile f s before after a r.
+          by-reading profile _ r (λ q. (read-told profile a (q .0), λ _. q .1)) (d1 .feed _ f s before after a);
+      ask = λ profile marks state before after lost reasons a r.
+          by-reading profile _ r (unread-told profile before after lost reasons a)
+          (d1 .ask _ marks state before after (receiptOf a lost reasons));
+      read-profile = λ profile masks level mode k seeds a r. read-told profile a (r .answer);
+      write-profile = λ masks level mode k seeds profile count a r.
+          subst (λ (w : Writing). T (isAnswer (w .number) (w .place))) (r .answer) (d1 .write _ .0);
       parity = λ k before after n r. (rw (r .answer) (parity-number (not (isK k)) (not (eqb (length before) 1952))), r .kept);
     }
 
@@ -109,7 +110,7 @@ calls-one =
           (λ p q. fields (d2 .one-asking _ marks state before after after' _ _ p q));
       read-profile = λ profile masks masks' level level' mode mode' k k' seeds seeds' n m x y.
           let e = sym (x .value) ∙ y .value in (
-            x .number ∙ sym (y .number),
+            x .answer ∙ sym (y .answer),
             ap (λ (P : Profile). P .masks) e,
             ap (λ (P : Profile). P .level) e,
             ap (λ (P : Profile). P .mode) e,
@@ -118,6 +119,6 @@ calls-one =
           );
       write-profile = λ masks level mode k seeds profile profile' count count' n m x y.
           let e = sym (x .answer) ∙ y .answer in
-          (ap (λ (w : Writing). w .number) e, ap (λ (w : Writing). w .bytes) e, ap (λ (w : Writing). w .count) e);
+          (ap (λ (w : Writing). record { number = w .number; place = w .place }) e, ap (λ (w : Writing). w .bytes) e, ap (λ (w : Writing). w .count) e);
       parity = λ k before after after' n m. one-parity k;
     }

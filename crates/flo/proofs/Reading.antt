@@ -4,16 +4,21 @@ use mathlib.Core.List.{List}
 use Prim.Native.Nat.{ℕ}
 use Rattle.rules.specs.Profile.{reading}
 use Rattle.rules.specs.Block.{silence}
+use Rattle.rules.specs.declared.Answer.{Answer}
 use Rattle.rules.specs.declared.Profile.{Profile}
 use Rattle.rules.specs.declared.Reading.{Reading}
 use Rattle.rules.specs.declared.Receipt.{Receipt}
-use Rattle.flo.specs.Calls.{AfterReading, Unread}
+use Rattle.flo.specs.Calls.{AfterReading, receiptOf, Unread}
 
-module _ {profile : List ℕ} (Refused : ℕ → Type 0) (Rule : Profile → Type 0) (a : Reading) (e : a ≡ reading profile) where
-  pub not-read : ¬ (a .number ≡ 0) → Refused (a .number) → AfterReading profile Refused Rule
+-- what a reading answers, without the profile
+abbrev pub told : Reading → Answer
+told a = record { number = a .number; place = a .place }
+
+module _ {profile : List ℕ} (Refused : Answer → Type 0) (Rule : Profile → Type 0) (a : Reading) (e : a ≡ reading profile) where
+  pub not-read : ¬ (a .number ≡ 0) → Refused (told a) → AfterReading profile Refused Rule
   not-read ne x =
       record {
-        unread = λ _. subst Refused (ap (λ (r : Reading). r .number) e) x;
+        unread = λ _. subst Refused (ap told e) x;
         read = λ z. absurd (ne (ap (λ (r : Reading). r .number) e ∙ z));
       }
 
@@ -25,7 +30,7 @@ module _ {profile : List ℕ} (Refused : ℕ → Type 0) (Rule : Profile → Typ
       }
 
 -- a silent receipt, handed over, is an unread profile's answer
-pub unread-silent : {n lost m : ℕ} {reasons : List ℕ} (before : List ℕ) → record { number = n; lost = lost; reasons = reasons } ≡ silence m
-    → Unread before before lost reasons n m
+pub unread-silent : {a m : Answer} {lost : ℕ} {reasons : List ℕ} (before : List ℕ) → receiptOf a lost reasons ≡ silence m
+    → Unread before before lost reasons a m
 unread-silent before e =
-    (ap (λ (r : Receipt). r .number) e, ap (λ (r : Receipt). r .lost) e, ap (λ (r : Receipt). r .reasons) e, refl)
+    (ap (λ (r : Receipt). record { number = r .number; place = r .place }) e, ap (λ (r : Receipt). r .lost) e, ap (λ (r : Receipt). r .reasons) e, refl)

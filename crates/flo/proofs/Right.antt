@@ -9,17 +9,20 @@ use lib.Dec.{T}
 use lib.Ieee.{Float}
 use lib.ListN.{take}
 use Rattle.rules.specs.Bits.{row}
-use Rattle.rules.specs.Answers.{hasRead}
+use Rattle.rules.specs.Answers.{hasRead, namesField}
 use Rattle.rules.specs.Profile.{inRange, reading, writing}
 use Rattle.rules.specs.Pieces.{FeedRule, Fed, LeftBy}
+use Rattle.rules.specs.Demands.{Names}
+use Rattle.rules.specs.declared.Answer.{Answer}
 use Rattle.rules.specs.declared.Profile.{Profile}
 use Rattle.rules.specs.declared.Reading.{Reading}
 use Rattle.rules.specs.declared.Writing.{Writing}
-use Rattle.profile.proofs.RoundTrip.{read-most, unread}
+use Rattle.profile.proofs.RoundTrip.{unread, not-22}
 use Rattle.card.proofs.D2.{d2}
 use Rattle.card.proofs.D3.{d3}
-use Rattle.flo.specs.Calls.{AfterReading, FloFeed}
-use Rattle.flo.specs.Demands.{said, CallsRight, CallsBring}
+use Rattle.flo.specs.Calls.{AfterReading, refusal, receiptOf, FloFeed}
+use Rattle.flo.specs.Demands.{said, NamesRead, CallsRight, CallsBring}
+use Rattle.flo.proofs.Reading.{told}
 use Rattle.flo.proofs.Demands.{by-reading}
 
 -- bytes that read well say a profile in range
@@ -27,8 +30,8 @@ ranged : (profile : List ℕ) → ((i : ℕ) → row profile i < 256) → readin
 ranged profile bytes z = d2 .writes (said profile) .0 (ap (λ (w : Writing). w .number) (d2 .written-read profile bytes z))
 
 -- where a refusal of reading can't have been answered, the profile was read
-passed : (profile : List ℕ) {Refused : ℕ → Type 0} {Rule : Profile → Type 0} → AfterReading profile Refused Rule
-    → (Refused (reading profile .number) → reading profile .number ≡ 0)
+passed : (profile : List ℕ) {Refused : Answer → Type 0} {Rule : Profile → Type 0} → AfterReading profile Refused Rule
+    → (Refused (refusal profile) → reading profile .number ≡ 0)
     → Rule (said profile) × (reading profile .number ≡ 0)
 passed profile {Rule = Rule} r none = go (ℕ-discrete (reading profile .number) 0)
   where
@@ -37,15 +40,19 @@ passed profile {Rule = Rule} r none = go (ℕ-discrete (reading profile .number)
     go (no ne) = absurd (ne (none (r .unread ne)))
 
 -- no refusal of reading is a number at which cells are read
-not-read : (profile : List ℕ) (n : ℕ) → T (hasRead n) → n ≡ reading profile .number → reading profile .number ≡ 0
-not-read profile n t e = unread profile (subst (λ (m : ℕ). T (hasRead m)) e t)
+not-read : (profile : List ℕ) (a : Answer) → T (hasRead (a .number)) → a ≡ refusal profile → reading profile .number ≡ 0
+not-read profile a t e = unread profile (subst (λ (m : Answer). T (hasRead (m .number))) e t)
+
+-- nor 0
+not-refused : (profile : List ℕ) (a : Answer) → a .number ≡ 0 → a ≡ refusal profile → reading profile .number ≡ 0
+not-refused profile a z e = sym (ap (λ (m : Answer). m .number) e) ∙ z
 
 -- ---- pieces fed with the bytes are fed with the profile that they say
 
 -- the number is no refusal of reading
-fed-passed : (profile : List ℕ) {f s : List Float} {before after : List ℕ} {n : ℕ} → FloFeed profile f s before after n → n ≡ 0
-    → FeedRule (said profile) f s before after n × (reading profile .number ≡ 0)
-fed-passed profile r z = passed profile r (λ q. sym (q .0) ∙ z)
+fed-passed : (profile : List ℕ) {f s : List Float} {before after : List ℕ} {a : Answer} → FloFeed profile f s before after a → a .number ≡ 0
+    → FeedRule (said profile) f s before after a × (reading profile .number ≡ 0)
+fed-passed profile {a = a} r z = passed profile r (λ q. not-refused profile a z (q .0))
 
 fed-said : (profile : List ℕ) {f s : List Float} {state : List ℕ} → Fed (FloFeed profile) f s state → Fed (FeedRule (said profile)) f s state
 fed-said profile Fed.new = Fed.new
@@ -60,8 +67,8 @@ fed-read profile z (Fed.piece f s f' s' before after h r) =
     Fed.piece f s f' s' before after (fed-read profile z h) (record { unread = λ ne. absurd (ne z); read = λ _. r })
 
 -- no number of reading is 22
-not-22 : (profile : List ℕ) (n : ℕ) → n ≡ 22 → n ≡ reading profile .number → reading profile .number ≡ 0
-not-22 profile n e q = absurd (omega (arith, read-most profile))
+said-22 : (profile : List ℕ) (a : Answer) → a .number ≡ 22 → a ≡ refusal profile → reading profile .number ≡ 0
+said-22 profile a e q = absurd (not-22 profile (sym (ap (λ (m : Answer). m .number) q) ∙ e))
 
 -- 22 over the bytes, from 22 over the profile
 left-said : (profile state : List ℕ) (n : ℕ)
@@ -76,70 +83,99 @@ left-said profile state n bytes read iff = (
   λ q. iff (q .0) .1 (ranged profile bytes (q .0), λ l. q .1 (l .0, l .1, fed-read profile (q .0) (l .2))),
 )
 
+-- where the bytes read well, the profile is in its range and no field is named
+names-read : (profile : List ℕ) (a : Answer) {Refused : Answer → Type 0} {Rule : Profile → Type 0}
+    → ((i : ℕ) → row profile i < 256)
+    → AfterReading profile Refused Rule
+    → (Refused (refusal profile) → a ≡ refusal profile)
+    → (Rule (said profile) → Names (said profile) a)
+    → NamesRead profile a
+names-read profile a bytes r unread read = go (ℕ-discrete (reading profile .number) 0)
+  where
+    go : Dec (reading profile .number ≡ 0) → NamesRead profile a
+    go (yes z) =
+        let none : ¬ T (namesField (a .number)) = λ t. read (r .read z) .0 .0 t (ranged profile bytes z) in
+        (((λ t. absurd (none t)), λ t. absurd (subst (λ (n : ℕ). T (namesField n)) z t)), λ t. absurd (none t))
+    go (no ne) =
+        let e = unread (r .unread ne) in (
+          (subst (λ (m : Answer). T (namesField (m .number))) e, subst (λ (m : Answer). T (namesField (m .number))) (sym e)),
+          λ _. e,
+        )
+
 pub calls-right : CallsRight
 calls-right =
     record {
-      cells = λ profile d f s f' s' n r z. d2 .cells _ d f s f' s' n (passed profile r (λ q. sym (q .0) ∙ z) .0) z;
-      sends = λ profile d f s f' s' n bytes r. (
+      cells = λ profile d f s f' s' a r z. d2 .cells _ d f s f' s' a (passed profile r (λ q. not-refused profile a z (q .0)) .0) z;
+      sends = λ profile d f s f' s' a bytes r. (
         (λ z.
-            let w = passed profile r (λ q. sym (q .0) ∙ z) in
-            let x = d2 .sends _ d f s f' s' n (w .0) .0 z in
+            let w = passed profile r (λ q. not-refused profile a z (q .0)) in
+            let x = d2 .sends _ d f s f' s' a (w .0) .0 z in
             (w .1, x .1, x .2, x .3)),
-        λ q. d2 .sends _ d f s f' s' n (r .read (q .0)) .1 (ranged profile bytes (q .0), q .1, q .2, q .3),
+        λ q. d2 .sends _ d f s f' s' a (r .read (q .0)) .1 (ranged profile bytes (q .0), q .1, q .2, q .3),
       );
-      symbol-cells = λ profile d symbol f s f' s' n r z.
-          d2 .symbol-cells _ d symbol f s f' s' n (passed profile r (λ q. sym (q .0) ∙ z) .0) z;
-      reads = λ profile marks f s before after lost reasons n bytes r. (
+      symbol-cells = λ profile d symbol f s f' s' a r z.
+          d2 .symbol-cells _ d symbol f s f' s' a (passed profile r (λ q. not-refused profile a z (q .0)) .0) z;
+      reads = λ profile marks f s before after lost reasons a bytes r. (
         (λ t.
-            let w = passed profile r (λ q. not-read profile n t (q .0)) in
+            let w = passed profile r (λ q. not-read profile a t (q .0)) in
             let x = d2 .reads _ marks f s before after _ (w .0) .0 t in
             (w .1, x .1, x .2, x .3)),
         λ q. d2 .reads _ marks f s before after _ (r .read (q .0)) .1 (ranged profile bytes (q .0), q .1, q .2, q .3),
       );
-      nothing-accepted = λ profile marks f s before after lost reasons n r ne.
+      nothing-accepted = λ profile marks f s before after lost reasons a r ne.
           by-reading profile _ r (λ q. (q .1, q .2)) (λ q. let x = d2 .nothing-accepted _ marks f s before after _ q ne in (x .0, x .1));
-      accepts = λ profile marks f s before after lost reasons n r t p l u.
-          let w = passed profile r (λ q. not-read profile n t (q .0)) in
+      accepts = λ profile marks f s before after lost reasons a r t p l u.
+          let w = passed profile r (λ q. not-read profile a t (q .0)) in
           let iff = d2 .accepts _ marks f s before after _ (w .0) t p l u in
           ((λ e. iff .0 (t, e)), λ q. iff .1 q .1);
-      feed-22 = λ profile f s before after n bytes state r.
-          left-said profile before n bytes (λ e. passed profile r (λ q. not-22 profile n e (q .0)) .1)
-          (λ z. d2 .feed-22 _ f s before after n state (r .read z));
-      ask-22 = λ profile marks state before after lost reasons n bytes numbers r.
-          left-said profile state n bytes (λ e. passed profile r (λ q. not-22 profile n e (q .0)) .1)
+      feed-22 = λ profile f s before after a bytes state r.
+          left-said profile before (a .number) bytes (λ e. passed profile r (λ q. said-22 profile a e (q .0)) .1)
+          (λ z. d2 .feed-22 _ f s before after a state (r .read z));
+      ask-22 = λ profile marks state before after lost reasons a bytes numbers r.
+          left-said profile state (a .number) bytes (λ e. passed profile r (λ q. said-22 profile a e (q .0)) .1)
           (λ z. d2 .ask-22 _ marks state before after _ numbers (r .read z));
-      takes = λ profile f s f' s' before after n bytes z h r.
-          d2 .takes _ f s f' s' before after n (ranged profile bytes z) (fed-said profile h) (r .read z);
-      any-cutting = λ profile marks f s state before after lost reasons n h all r.
+      takes = λ profile f s f' s' before after a bytes z h r.
+          d2 .takes _ f s f' s' before after a (ranged profile bytes z) (fed-said profile h) (r .read z);
+      any-cutting = λ profile marks f s state before after lost reasons a h all r.
           record { unread = r .unread; read = λ z. d2 .any-cutting _ marks f s state before after _ (fed-said profile h) all (r .read z) };
-      ask-reads = λ profile marks f s state before after lost reasons n bytes h r. (
+      ask-reads = λ profile marks f s state before after lost reasons a bytes h r. (
         (λ t.
-            let w = passed profile r (λ q. not-read profile n t (q .0)) in
+            let w = passed profile r (λ q. not-read profile a t (q .0)) in
             let x = d2 .ask-reads _ marks f s state before after _ (fed-said profile h) (w .0) .0 t in
             (w .1, x .1, x .2)),
         λ q.
             d2 .ask-reads _ marks f s state before after _ (fed-said profile h) (r .read (q .0)) .1 (ranged profile bytes (q .0), q .1, q .2),
       );
-      ask-nothing = λ profile marks state before after lost reasons n r ne.
+      ask-nothing = λ profile marks state before after lost reasons a r ne.
           by-reading profile _ r (λ q. (q .1, q .2)) (λ q. let x = d2 .ask-nothing _ marks state before after _ q ne in (x .0, x .1));
-      ask-accepts = λ profile marks f s state before after lost reasons n h r t p l u.
-          let w = passed profile r (λ q. not-read profile n t (q .0)) in
+      ask-accepts = λ profile marks f s state before after lost reasons a h r t p l u.
+          let w = passed profile r (λ q. not-read profile a t (q .0)) in
           let iff = d2 .ask-accepts _ marks f s state before after _ (fed-said profile h) (w .0) t p l u in
           ((λ e. iff .0 (t, e)), λ q. iff .1 q .1);
-      read-written = λ masks level mode k seeds profile count n S r z.
+      read-written = λ masks level mode k seeds profile count a S r z.
           let e = ap (λ (w : Writing). reading (take (w .count) (w .bytes))) (sym (r .answer))
           ∙ d2 .read-written _ S (ap (λ (w : Writing). w .number) (r .answer) ∙ z) in
-          record { number = sym (ap (λ (x : Reading). x .number) e); value = ap (λ (x : Reading). x .profile) e };
-      written-read = λ profile masks level mode k seeds n bytes r z.
-          record { answer = ap writing (sym (r .value)) ∙ d2 .written-read profile bytes (sym (r .number) ∙ z) };
+          record { answer = sym (ap told e); value = ap (λ (x : Reading). x .profile) e };
+      written-read = λ profile masks level mode k seeds a bytes r z.
+          record { answer = ap writing (sym (r .value)) ∙ d2 .written-read profile bytes (not-refused profile a z (r .answer)) };
+      send-names = λ profile d f s f' s' a bytes r.
+          names-read profile a bytes r (λ q. q .0) (d2 .send-names (said profile) d f s f' s' a);
+      symbol-names = λ profile d symbol f s f' s' a bytes r.
+          names-read profile a bytes r (λ q. q .0) (d2 .symbol-names (said profile) d symbol f s f' s' a);
+      receive-names = λ profile marks f s before after lost reasons a bytes r.
+          names-read profile a bytes r (λ q. q .0) (d2 .receive-names (said profile) marks f s before after (receiptOf a lost reasons));
+      feed-names = λ profile f s before after a bytes r.
+          names-read profile a bytes r (λ q. q .0) (d2 .feed-names (said profile) f s before after a);
+      ask-names = λ profile marks state before after lost reasons a bytes r.
+          names-read profile a bytes r (λ q. q .0) (d2 .ask-names (said profile) marks state before after (receiptOf a lost reasons));
     }
 
 pub calls-bring : CallsBring
 calls-bring =
     record {
-      sent-and-received = λ profile d marks f s before after lost reasons n bytes q long numbers each r.
+      sent-and-received = λ profile d marks f s before after lost reasons a bytes q long numbers each r.
           d3 .sent-and-received _ d marks f s before after _ (ranged profile bytes (q .0)) long numbers (q .1) (q .2) (q .3) each (r .read (q .0));
-      sent-and-asked = λ profile d marks f s state before after lost reasons n long numbers each h r t.
+      sent-and-asked = λ profile d marks f s state before after lost reasons a long numbers each h r t.
           d3 .sent-and-asked _ d marks f s state before after _ long numbers each (fed-said profile h)
-          (passed profile r (λ q. not-read profile n t (q .0)) .0) t;
+          (passed profile r (λ q. not-read profile a t (q .0)) .0) t;
     }

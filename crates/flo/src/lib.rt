@@ -1,8 +1,28 @@
 // The C interface, thin: include/flo.h says each call's rule in words.
 ghost use mathlib.Core.Path.{_≡_};
 ghost use Rattle.flo.specs.Calls.{FloSend, FloSendSymbol, FloReceive, FloFeed, FloAsk, FloReadProfile, FloWriteProfile, FloParity};
+use rules::Answer;
 use rules::Profile;
+use rules::Reading;
 use rules::Receipt;
+
+// Hands an answer's place over by the caller's pointer, and its number as the answer.
+fn place_over(a: Answer, place: &mut usize) -> u32
+    ensures { λ r. ⌜ record { number = r; place = now (place .exit) } ≡ a ⌝ }
+{
+    *place = a.place;
+    a.number
+}
+
+// What reading a profile answers, without the profile.
+fn refusal(a: Reading) -> Answer
+    ensures { λ r. ⌜ r ≡ record { number = a .number; place = a .place } ⌝ }
+{
+    Answer {
+        number: a.number,
+        place: a.place,
+    }
+}
 
 #[no_mangle]
 pub extern "C" fn flo_send(
@@ -10,15 +30,16 @@ pub extern "C" fn flo_send(
     data: &[u8],
     firsts: &mut [f32],
     seconds: &mut [f32],
+    place: &mut usize,
 ) -> u32
-    ensures { λ r. ⌜ FloSend (now (profile .entry)) (now («data» .entry)) (now (firsts .entry)) (now (seconds .entry)) (now (firsts .exit)) (now (seconds .exit)) r ⌝ }
+    ensures { λ r. ⌜ FloSend (now (profile .entry)) (now («data» .entry)) (now (firsts .entry)) (now (seconds .entry)) (now (firsts .exit)) (now (seconds .exit)) (record { number = r; place = now (place .exit) }) ⌝ }
 {
     let a = profile::read(profile);
     if a.number != 0 {
-        return a.number;
+        return place_over(refusal(a), place);
     }
     let p = a.profile;
-    sending::send(p, data, firsts, seconds)
+    place_over(sending::send(p, data, firsts, seconds), place)
 }
 
 #[no_mangle]
@@ -28,21 +49,26 @@ pub extern "C" fn flo_send_symbol(
     symbol: usize,
     firsts: &mut [f32],
     seconds: &mut [f32],
+    place: &mut usize,
 ) -> u32
-    ensures { λ r. ⌜ FloSendSymbol (now (profile .entry)) (now («data» .entry)) symbol (now (firsts .entry)) (now (seconds .entry)) (now (firsts .exit)) (now (seconds .exit)) r ⌝ }
+    ensures { λ r. ⌜ FloSendSymbol (now (profile .entry)) (now («data» .entry)) symbol (now (firsts .entry)) (now (seconds .entry)) (now (firsts .exit)) (now (seconds .exit)) (record { number = r; place = now (place .exit) }) ⌝ }
 {
     let a = profile::read(profile);
     if a.number != 0 {
-        return a.number;
+        return place_over(refusal(a), place);
     }
     let p = a.profile;
-    sending::send_symbol(p, data, symbol, firsts, seconds)
+    place_over(
+        sending::send_symbol(p, data, symbol, firsts, seconds),
+        place,
+    )
 }
 
 // Hands a receipt over by the caller's pointers, and its number as the answer.
-fn hand_over(receipt: Receipt, lost: &mut u16, reasons: &mut [u8; 16]) -> u32
-    ensures { λ r. ⌜ record { number = r; lost = now (lost .exit); reasons = now (reasons .exit) } ≡ receipt ⌝ }
+fn hand_over(receipt: Receipt, lost: &mut u16, reasons: &mut [u8; 16], place: &mut usize) -> u32
+    ensures { λ r. ⌜ record { number = r; place = now (place .exit); lost = now (lost .exit); reasons = now (reasons .exit) } ≡ receipt ⌝ }
 {
+    *place = receipt.place;
     *lost = receipt.lost;
     let each = receipt.reasons;
     *reasons = each;
@@ -58,31 +84,39 @@ pub extern "C" fn flo_receive(
     data: &mut [u8],
     lost: &mut u16,
     reasons: &mut [u8; 16],
+    place: &mut usize,
 ) -> u32
-    ensures { λ r. ⌜ FloReceive (now (profile .entry)) marks (now (firsts .entry)) (now (seconds .entry)) (now («data» .entry)) (now («data» .exit)) (now (lost .exit)) (now (reasons .exit)) r ⌝ }
+    ensures { λ r. ⌜ FloReceive (now (profile .entry)) marks (now (firsts .entry)) (now (seconds .entry)) (now («data» .entry)) (now («data» .exit)) (now (lost .exit)) (now (reasons .exit)) (record { number = r; place = now (place .exit) }) ⌝ }
 {
     let a = profile::read(profile);
     if a.number != 0 {
-        return hand_over(receiving::silence(a.number), lost, reasons);
+        return hand_over(receiving::silence(refusal(a)), lost, reasons, place);
     }
     let p = a.profile;
     hand_over(
         receiving::receive(p, marks, firsts, seconds, data),
         lost,
         reasons,
+        place,
     )
 }
 
 #[no_mangle]
-pub extern "C" fn flo_feed(profile: &[u8], state: &mut [u8], firsts: &[f32], seconds: &[f32]) -> u32
-    ensures { λ r. ⌜ FloFeed (now (profile .entry)) (now (firsts .entry)) (now (seconds .entry)) (now (state .entry)) (now (state .exit)) r ⌝ }
+pub extern "C" fn flo_feed(
+    profile: &[u8],
+    state: &mut [u8],
+    firsts: &[f32],
+    seconds: &[f32],
+    place: &mut usize,
+) -> u32
+    ensures { λ r. ⌜ FloFeed (now (profile .entry)) (now (firsts .entry)) (now (seconds .entry)) (now (state .entry)) (now (state .exit)) (record { number = r; place = now (place .exit) }) ⌝ }
 {
     let a = profile::read(profile);
     if a.number != 0 {
-        return a.number;
+        return place_over(refusal(a), place);
     }
     let p = a.profile;
-    receiving::feed(p, state, firsts, seconds)
+    place_over(receiving::feed(p, state, firsts, seconds), place)
 }
 
 #[no_mangle]
@@ -93,15 +127,16 @@ pub extern "C" fn flo_ask(
     data: &mut [u8],
     lost: &mut u16,
     reasons: &mut [u8; 16],
+    place: &mut usize,
 ) -> u32
-    ensures { λ r. ⌜ FloAsk (now (profile .entry)) marks (now (state .entry)) (now («data» .entry)) (now («data» .exit)) (now (lost .exit)) (now (reasons .exit)) r ⌝ }
+    ensures { λ r. ⌜ FloAsk (now (profile .entry)) marks (now (state .entry)) (now («data» .entry)) (now («data» .exit)) (now (lost .exit)) (now (reasons .exit)) (record { number = r; place = now (place .exit) }) ⌝ }
 {
     let a = profile::read(profile);
     if a.number != 0 {
-        return hand_over(receiving::silence(a.number), lost, reasons);
+        return hand_over(receiving::silence(refusal(a)), lost, reasons, place);
     }
     let p = a.profile;
-    hand_over(receiving::ask(p, marks, state, data), lost, reasons)
+    hand_over(receiving::ask(p, marks, state, data), lost, reasons, place)
 }
 
 #[no_mangle]
@@ -112,8 +147,9 @@ pub extern "C" fn flo_read_profile(
     mode: &mut u8,
     k: &mut u8,
     seeds: &mut [u32; 48],
+    place: &mut usize,
 ) -> u32
-    ensures { λ r. ⌜ FloReadProfile (now (profile .entry)) (now (masks .exit)) (now (level .exit)) (now (mode .exit)) (now (k .exit)) (now (seeds .exit)) r ⌝ }
+    ensures { λ r. ⌜ FloReadProfile (now (profile .entry)) (now (masks .exit)) (now (level .exit)) (now (mode .exit)) (now (k .exit)) (now (seeds .exit)) (record { number = r; place = now (place .exit) }) ⌝ }
 {
     let a = profile::read(profile);
     let p = a.profile;
@@ -124,6 +160,7 @@ pub extern "C" fn flo_read_profile(
     *k = p.k;
     let s = p.seeds;
     *seeds = s;
+    *place = a.place;
     a.number
 }
 
@@ -136,8 +173,9 @@ pub extern "C" fn flo_write_profile(
     seeds: &[u32; 48],
     profile: &mut [u8; 245],
     count: &mut usize,
+    place: &mut usize,
 ) -> u32
-    ensures { λ r. ⌜ FloWriteProfile (now (masks .entry)) level mode k (now (seeds .entry)) (now (profile .exit)) (now (count .exit)) r ⌝ }
+    ensures { λ r. ⌜ FloWriteProfile (now (masks .entry)) level mode k (now (seeds .entry)) (now (profile .exit)) (now (count .exit)) (record { number = r; place = now (place .exit) }) ⌝ }
 {
     let m = *masks;
     let s = *seeds;
@@ -151,6 +189,7 @@ pub extern "C" fn flo_write_profile(
     let bytes = a.bytes;
     *profile = bytes;
     *count = a.count;
+    *place = a.place;
     a.number
 }
 
