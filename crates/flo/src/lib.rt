@@ -7,11 +7,11 @@ use rules::Reading;
 use rules::Receipt;
 
 // Hands an answer's place over by the caller's pointer, and its number as the answer.
-fn place_over(a: Answer, place: &mut usize) -> u32
-    ensures { λ r. ⌜ record { number = r; place = now (place .exit) } ≡ a ⌝ }
+fn place_over(answer: Answer, place: &mut usize) -> u32
+    ensures { λ r. ⌜ record { number = r; place = now (place .exit) } ≡ answer ⌝ }
 {
-    *place = a.place;
-    a.number
+    *place = answer.place;
+    answer.number
 }
 
 // What reading a profile answers, without the profile.

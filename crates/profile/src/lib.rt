@@ -119,12 +119,12 @@ fn put_all(s: &mut [u8], p: Profile) -> usize
 pub fn write(p: Profile) -> Writing
     ensures { λ r. ⌜ r ≡ writing p ⌝ }
 {
-    let a = fault(p);
+    let f = fault(p);
     let mut bytes = [0u8; LARGEST];
-    if a.number != 0 {
+    if f.number != 0 {
         return Writing {
-            number: a.number,
-            place: a.place,
+            number: f.number,
+            place: f.place,
             bytes,
             count: 0,
         };
