@@ -1,11 +1,13 @@
-// How the programs speak, and what they share on their input and output. What each writes on standard error has one of four forms, by which `bin/` knows the exit status:
+// How the programs speak, and what they share on their input and output. What each writes on standard error has one of five forms, by which `bin/` knows the exit status:
 //
 //     N words                          a refusal: the documents' number, and what it means
+//     N at byte P: words               a refusal that names a field of the profile's bytes: which of its numbers, what it is, what is allowed
 //     profile_text: line N: words      a refused text; `profile_text: text: words` where no line is at fault
 //     NAME: cannot words               trouble: input that can't be read, output that can't be written
 //     usage: words                     words that the program does not take
 //
 // A program that did what was asked says nothing there.
+pub mod field;
 pub mod put;
 
 use libc::STDERR_FILENO;
@@ -26,6 +28,11 @@ pub enum Request {
 // A number of two bytes.
 pub fn pair(high: u8, low: u8) -> u16 {
     high as u16 * 256 + low as u16
+}
+
+// A number of four bytes.
+pub fn quad(a: u8, b: u8, c: u8, d: u8) -> u32 {
+    pair(a, b) as u32 * 65536 + pair(c, d) as u32
 }
 
 // Whether two words are the same.
@@ -113,7 +120,6 @@ fn meaning(out: &mut [u8], at: usize, number: u32) -> usize {
         1 => put::bytes(out, at, b"profile ends inside a field"),
         2 => put::bytes(out, at, b"tag other than the one due"),
         3 => put::bytes(out, at, b"declared length wrong"),
-        4 => put::bytes(out, at, b"value outside its range"),
         5 => put::bytes(out, at, b"profile ends between fields with one due"),
         6 => put::bytes(out, at, b"the data isn't 122 x K bytes"),
         7 => put::bytes(out, at, b"the cells aren't 4096 x 8 bytes a symbol"),
@@ -127,6 +133,11 @@ fn meaning(out: &mut [u8], at: usize, number: u32) -> usize {
         16 => put::bytes(out, at, b"the piece reaches past the grid's end"),
         17 => put::bytes(out, at, b"the last cell has not come yet"),
         22 => put::bytes(out, at, b"a state that no feeding with this profile leaves"),
+        40 => put::bytes(out, at, b"a mask is outside its range"),
+        41 => put::bytes(out, at, b"the level is outside its range"),
+        42 => put::bytes(out, at, b"the mode is outside its range"),
+        43 => put::bytes(out, at, b"K is outside its range"),
+        44 => put::bytes(out, at, b"a seed is outside its range"),
         _ => put::bytes(out, at, b"unknown number"),
     }
 }
@@ -143,6 +154,32 @@ pub fn refuse(number: u32) {
     let at = numbered(&mut out, number);
     let at = meaning(&mut out, at, number);
     put::say(&mut out, at);
+}
+
+// A refusal of what the bytes begin with, at a place of the profile.
+fn refuse_at(number: u32, place: usize, bytes: &[u8]) {
+    let n = field::size(number);
+    if n == 0 || bytes.len() < n {
+        return refuse(number);
+    }
+    let mut out = [0u8; ROOM];
+    let at = put::decimal(&mut out, 0, number as u64);
+    let at = put::bytes(&mut out, at, b" at byte ");
+    let at = put::decimal(&mut out, at, place as u64);
+    let at = put::bytes(&mut out, at, b": ");
+    let at = field::before(&mut out, at, number, field::index(number, place));
+    let at = field::value(&mut out, at, number, &bytes[0..n]);
+    let at = field::after(&mut out, at, number);
+    put::say(&mut out, at);
+}
+
+// A refusal of a profile's bytes: where it names a field, by what stands at the place.
+pub fn refuse_profile(number: u32, place: usize, bytes: &[u8]) {
+    if place <= bytes.len() {
+        refuse_at(number, place, &bytes[place..]);
+    } else {
+        refuse(number);
+    }
 }
 
 // A refusal for input that ends before the profile, or what stands beside it, does.

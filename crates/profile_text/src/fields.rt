@@ -1,4 +1,5 @@
-// The fields of a text, by number: what they are called, how many numbers each has, the place of its first one among all 59, its range.
+// The fields of a text, by number: what they are called, how many numbers each has, the place of its first one among all 59, its range, and the
+// number that a profile is refused with for it.
 ghost use Prim.Native.Nat.{_≤_};
 use manners::same;
 
@@ -74,6 +75,17 @@ pub fn seeds(mode: u32) -> usize
     ensures { λ r. ⌜ r ≤ 48 ⌝ }
 {
     if mode == 0 { 48 } else { 32 }
+}
+
+// The number that a fault in the field has in a profile.
+pub fn refusal(f: usize) -> u32 {
+    match f {
+        0 => 40,
+        1 => 41,
+        2 => 42,
+        3 => 43,
+        _ => 44,
+    }
 }
 
 // Whether a number is in the field's range; D is judged by its pattern.

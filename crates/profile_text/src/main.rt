@@ -79,11 +79,11 @@ fn make_profile(input: &[u8]) {
     }
 }
 
-// The profile's text, or the number of its refusal.
+// The profile's text, or its refusal.
 fn show_profile(bytes: &[u8]) {
     let r = profile::read(bytes);
     if r.number != 0 {
-        return manners::refuse(r.number);
+        return manners::refuse_profile(r.number, r.place, bytes);
     }
     let p = r.profile;
     let mut out = [0u8; ROOM];
@@ -124,8 +124,8 @@ A text has one field a line, in any order; # starts a comment, blank lines are a
     k 14                        8, 12 or 14
     seeds 1 2 3                 32 in mode 1, 48 in mode 0, from 1 to 1048575; more lines with seeds go on
 
-Standard error    a refused text: its first mistake. A refused profile: its number, and what it means. Trouble: what can't be read or
-                  written. Nothing is then written to standard output.
+Standard error    a refused text: its first mistake. A refused profile: its number, and what it means, with the byte where a value is
+                  outside its range. Trouble: what can't be read or written. Nothing is then written to standard output.
 
 bin/profile_text ends with 0 when it is done, 1 when it refused, 2 for a wrong use or trouble.
 ",

@@ -3,6 +3,7 @@ use super::draft;
 use super::draft::Draft;
 use super::draft::Fault;
 use super::fields;
+use manners::field;
 use manners::put;
 
 // Room for a message.
@@ -19,20 +20,6 @@ pub fn name(out: &mut [u8], at: usize, f: usize) -> usize {
         2 => put::bytes(out, at, b"mode"),
         3 => put::bytes(out, at, b"k"),
         _ => put::bytes(out, at, b"seeds"),
-    }
-}
-
-// A field's range.
-fn range(out: &mut [u8], at: usize, f: usize) -> usize {
-    match f {
-        1 => put::bytes(
-            out,
-            at,
-            b"positive, finite and normal, 0x00800000 to 0x7F7FFFFF",
-        ),
-        2 => put::bytes(out, at, b"0 or 1"),
-        3 => put::bytes(out, at, b"8, 12 or 14"),
-        _ => put::bytes(out, at, b"1 to 1048575"),
     }
 }
 
@@ -90,10 +77,12 @@ fn word(out: &mut [u8], at: usize, s: &[u8], what: &[u8]) -> usize {
     put::bytes(out, at, what)
 }
 
-// A word and its field's range.
-fn outside(out: &mut [u8], at: usize, f: usize, s: &[u8]) -> usize {
-    let at = word(out, at, s, b"\" is outside its range, ");
-    range(out, at, f)
+// A word whose number is outside its field's range, with the index among the field's numbers that it would have had.
+fn outside(out: &mut [u8], at: usize, d: Draft, f: usize, s: &[u8]) -> usize {
+    let number = fields::refusal(f);
+    let at = field::before(out, at, number, given(d, f));
+    let at = put::foreign(out, at, s);
+    field::after(out, at, number)
 }
 
 // A word that is no number, and what is one.
@@ -120,8 +109,8 @@ fn counts(out: &mut [u8], at: usize, f: usize, d: Draft, s: &[u8]) -> usize {
     due(out, at, f, d)
 }
 
-// A mistake; s is the word that it speaks of.
-fn what(out: &mut [u8], at: usize, d: Draft, f: usize, s: &[u8]) -> usize {
+// What is wrong in a field; s is the word that it speaks of.
+fn in_field(out: &mut [u8], at: usize, d: Draft, f: usize, s: &[u8]) -> usize {
     let fault = d.fault;
     match fault {
         Fault::NotNumber => no_number(out, at, f, s),
@@ -131,35 +120,37 @@ fn what(out: &mut [u8], at: usize, d: Draft, f: usize, s: &[u8]) -> usize {
             s,
             b"\" has more than 7 digits, or more than 10 after the point",
         ),
-        Fault::OutOfRange => outside(out, at, f, s),
         Fault::TooMany => counts(out, at, f, d, b"too many"),
         Fault::TooFew => counts(out, at, f, d, b"too few"),
         Fault::Empty => put::bytes(out, at, b"no number in this line"),
         Fault::Twice => put::bytes(out, at, b"given twice"),
-        Fault::Missing => put::bytes(out, at, b"missing"),
-        _ => word(
+        _ => put::bytes(out, at, b"missing"),
+    }
+}
+
+// A mistake, with the field's name before it where its words do not name what is wrong.
+fn what(out: &mut [u8], at: usize, d: Draft, f: usize, s: &[u8]) -> usize {
+    let fault = d.fault;
+    match fault {
+        Fault::Unknown => word(
             out,
             at,
             s,
             b"\" is an unknown word, the words are masks, level, mode, k and seeds",
         ),
+        Fault::OutOfRange => outside(out, at, d, f, s),
+        _ => {
+            let at = name(out, at, f);
+            let at = put::bytes(out, at, b": ");
+            in_field(out, at, d, f, s)
+        }
     }
-}
-
-// The field that a mistake is in, if it is in one.
-fn of_field(out: &mut [u8], at: usize, f: usize) -> usize {
-    if f == fields::FIELDS {
-        return at;
-    }
-    let at = name(out, at, f);
-    put::bytes(out, at, b": ")
 }
 
 // Says a text's first mistake, in line n; s is the text from that line on.
 pub fn mistake(n: usize, d: Draft, s: &[u8]) {
     let mut out = [0u8; ROOM];
     let at = place(&mut out, n);
-    let at = of_field(&mut out, at, d.field);
     let at = what(&mut out, at, d, d.field, shown(s, d.from, d.to));
     put::say(&mut out, at);
 }

@@ -1,0 +1,83 @@
+// The words for a number of a profile that is outside its range, in two halves with the number's value between them. A field goes by the number
+// that it is refused with: 40 mask, 41 level, 42 mode, 43 K, 44 seed.
+use super::put;
+
+fn indexed(out: &mut [u8], at: usize, what: &[u8], index: usize) -> usize {
+    let at = put::bytes(out, at, what);
+    put::decimal(out, at, index as u64)
+}
+
+// What the number at an index is called: only masks and seeds have several.
+fn name(out: &mut [u8], at: usize, number: u32, index: usize) -> usize {
+    match number {
+        40 => indexed(out, at, b"mask ", index),
+        41 => put::bytes(out, at, b"level"),
+        42 => put::bytes(out, at, b"mode"),
+        43 => put::bytes(out, at, b"K"),
+        _ => indexed(out, at, b"seed ", index),
+    }
+}
+
+fn range(out: &mut [u8], at: usize, number: u32) -> usize {
+    match number {
+        41 => put::bytes(
+            out,
+            at,
+            b"0x00800000 to 0x7F7FFFFF (positive, finite and normal)",
+        ),
+        42 => put::bytes(out, at, b"0 and 1"),
+        43 => put::bytes(out, at, b"8, 12 and 14"),
+        _ => put::bytes(out, at, b"1 to 1048575"),
+    }
+}
+
+// The words before the value.
+pub fn before(out: &mut [u8], at: usize, number: u32, index: usize) -> usize {
+    let at = name(out, at, number, index);
+    put::bytes(out, at, b" is ")
+}
+
+// The words after the value.
+pub fn after(out: &mut [u8], at: usize, number: u32) -> usize {
+    let at = put::bytes(out, at, b", ");
+    let at = range(out, at, number);
+    put::bytes(out, at, b" are allowed")
+}
+
+// How many bytes of a profile each number of a field has; none where the number names no field.
+pub(crate) fn size(number: u32) -> usize {
+    match number {
+        40 | 41 | 44 => 4,
+        42 | 43 => 1,
+        _ => 0,
+    }
+}
+
+// The index of the mask, or of the seed, that begins at a place.
+pub(crate) fn index(number: u32, place: usize) -> usize {
+    let first = if number == 40 { 3 } else { 53 };
+    if place < first {
+        0
+    } else {
+        (place - first) / 4
+    }
+}
+
+// The number that a field's bytes spell.
+fn spelt(bytes: &[u8]) -> u32 {
+    match bytes.len() {
+        1 => super::quad(0, 0, 0, bytes[0]),
+        4 => super::quad(bytes[0], bytes[1], bytes[2], bytes[3]),
+        _ => 0,
+    }
+}
+
+// The value that a field's bytes spell.
+pub(crate) fn value(out: &mut [u8], at: usize, number: u32, bytes: &[u8]) -> usize {
+    let x = spelt(bytes);
+    if number == 41 {
+        put::pattern(out, at, x)
+    } else {
+        put::decimal(out, at, x as u64)
+    }
+}
