@@ -1,5 +1,6 @@
-// Reads a table of profiles, each after two bytes of its length, and prints the number that each is read with. What is read well is written again:
-// then the count, whether the bytes came back, and what writing answers with another last seed follow. stdin and stdout are made by outside/flo.py.
+// Reads a table of profiles, each after two bytes of its length, and prints the number and the place that each is read with. What is read well is
+// written again: then writing's number and place, the count, whether the bytes came back, and what writing answers with another last seed follow.
+// stdin and stdout are made by outside/flo.py.
 ghost use mathlib.Core.Path.{_≡_};
 ghost use Prim.Native.Nat.{_<_};
 ghost use lib.ListN.{length};
@@ -7,6 +8,11 @@ ghost use lib.ListN.{length};
 fn print(n: usize) {
     io::print_decimal(1, n as u64);
     io::write_all(1, b" ");
+}
+
+fn print_answer(number: u32, place: usize) {
+    print(number as usize);
+    print(place);
 }
 
 // Whether the first n written bytes are the read ones.
@@ -19,26 +25,27 @@ fn compare(read: &[u8], written: &[u8], n: usize) {
 }
 
 // What writing answers where the last of the 48 seeds is 1: it is one of the block's in mode 0, and in mode 1 an unused one, which is to be zero.
-fn with_last_seed(p: rules::Profile) -> u32 {
+fn with_last_seed(p: rules::Profile) {
     let mut q = p;
     q.seeds[47] = 1;
     let a = profile::write(q);
-    a.number
+    print(a.number as usize);
+    io::print_decimal(1, a.place as u64);
 }
 
 fn written_again(bytes: &[u8], p: rules::Profile) {
     let a = profile::write(p);
-    print(a.number as usize);
+    print_answer(a.number, a.place);
     print(a.count);
     let written = a.bytes;
     compare(bytes, &written, a.count);
     io::write_all(1, b" ");
-    io::print_decimal(1, with_last_seed(p) as u64);
+    with_last_seed(p);
 }
 
 fn judged(bytes: &[u8]) {
     let a = profile::read(bytes);
-    print(a.number as usize);
+    print_answer(a.number, a.place);
     if a.number == 0 {
         written_again(bytes, a.profile);
     }
