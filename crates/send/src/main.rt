@@ -45,9 +45,9 @@ fn refuse(number: u32, n: usize, k: u8) {
 fn send_one(p: Profile, data: &[u8], y: usize) -> bool {
     let mut firsts = [0f32; 4096];
     let mut seconds = [0f32; 4096];
-    let number = sending::send_symbol(p, data, y, &mut firsts, &mut seconds);
-    if number != 0 {
-        refuse(number, data.len(), p.k);
+    let a = sending::send_symbol(p, data, y, &mut firsts, &mut seconds);
+    if a.number != 0 {
+        refuse(a.number, data.len(), p.k);
         return false;
     }
     write_parts(&firsts) && write_parts(&seconds)
@@ -87,7 +87,7 @@ fn send_by(bytes: &mut [u8]) {
     }
     let reading = profile::read(bytes);
     if reading.number != 0 {
-        return manners::refuse(reading.number);
+        return manners::refuse_profile(reading.number, reading.place, bytes);
     }
     let p = reading.profile;
     send_input(p);
@@ -114,7 +114,8 @@ Standard input    two bytes of profile length, the profile, the data (122 x K by
                   profile_text makes a profile.
 Standard output   for each symbol (7 in mode 0, 5 in mode 1) its 4096 first parts, then its 4096 second parts, each an f32 of four bytes,
                   high byte first. A refusal writes nothing there.
-Standard error    a refusal: its number, and what it means. Trouble: what can't be read or written.
+Standard error    a refusal: its number, and what it means, with the byte of the profile where a value is outside its range.
+                  Trouble: what can't be read or written.
 
 bin/send ends with 0 when it is done, 1 when it refused, 2 for a wrong use or trouble.
 ",
