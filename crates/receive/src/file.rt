@@ -102,7 +102,7 @@ fn folder(path: &[u8]) -> usize
 fn chance() -> u64 {
     let mut four = [0u8; 4];
     libc::getentropy(&mut four);
-    manners::pair(four[0], four[1]) as u64 * 65536 + manners::pair(four[2], four[3]) as u64
+    manners::quad(four[0], four[1], four[2], four[3]) as u64
 }
 
 // Puts the name of a new file in the same folder into a buffer, and answers its length.

@@ -9,6 +9,8 @@ ghost use lib.ListN.{length};
 use libc::STDIN_FILENO;
 use manners::Request;
 use manners::put;
+use profile::only;
+use rules::Answer;
 use rules::Profile;
 use rules::Receipt;
 
@@ -32,7 +34,7 @@ enum Two {
 
 // What feeding answered, and how many bytes of cells came for it.
 struct Fed {
-    number: u32,
+    answer: Answer,
     came: usize,
 }
 
@@ -67,12 +69,12 @@ fn read_parts(list: &mut [f32]) -> usize
     n
 }
 
-// The number for cells that did not all come: the input ended, or can't be read.
-fn cut() -> u32 {
+// The answer for cells that did not all come: the input ended, or can't be read.
+fn cut() -> Answer {
     if manners::is_unread(b"receive") {
-        UNREAD
+        only(UNREAD)
     } else {
-        7
+        only(7)
     }
 }
 
@@ -85,7 +87,7 @@ fn feed_one(p: Profile, state: &mut [u8]) -> Fed
     let first = read_parts(&mut firsts);
     if first != PARTS {
         return Fed {
-            number: cut(),
+            answer: cut(),
             came: first,
         };
     }
@@ -93,12 +95,12 @@ fn feed_one(p: Profile, state: &mut [u8]) -> Fed
     let came = PARTS + second;
     if second != PARTS {
         return Fed {
-            number: cut(),
+            answer: cut(),
             came,
         };
     }
     Fed {
-        number: receiving::feed(p, state, &firsts, &seconds),
+        answer: receiving::feed(p, state, &firsts, &seconds),
         came,
     }
 }
@@ -110,27 +112,33 @@ fn feed_all(p: Profile, state: &mut [u8]) -> Fed {
     for y in 0..n {
         let fed = feed_one(p, state);
         came = 2 * PARTS * y + fed.came;
-        if fed.number != 0 {
-            return Fed {
-                number: fed.number,
-                came,
-            };
+        let a = fed.answer;
+        if a.number != 0 {
+            return Fed { answer: a, came };
         }
     }
-    Fed { number: 0, came }
+    Fed {
+        answer: only(0),
+        came,
+    }
 }
 
 // What comes after the cells: 0 where the input ended.
-fn after_cells() -> u32 {
+fn after_cells() -> Answer {
     let mut one = [0u8; 1];
     if io::read_full(STDIN_FILENO, &mut one) != 0 {
-        return 7;
+        return only(7);
     }
     if manners::is_unread(b"receive") {
-        UNREAD
+        only(UNREAD)
     } else {
-        0
+        only(0)
     }
+}
+
+// What feeding answered or, where it took all cells, what comes after them.
+fn ended(a: Answer) -> Answer {
+    if a.number == 0 { after_cells() } else { a }
 }
 
 // Writes the data to the file that the argument names, where there is one.
@@ -147,18 +155,18 @@ fn keep(data: &[u8]) {
 }
 
 // A refusal of the profile.
-fn refused(number: u32) -> Receipt {
-    manners::refuse(number);
-    receiving::silence(number)
+fn refused(a: Answer, bytes: &[u8]) -> Receipt {
+    manners::refuse_profile(a.number, a.place, bytes);
+    receiving::silence(a)
 }
 
 // Input that ends before the mark mask does is refused, unless it did not end.
 fn stopped() -> Receipt {
     if manners::is_unread(b"receive") {
-        return receiving::silence(UNREAD);
+        return receiving::silence(only(UNREAD));
     }
     manners::refuse_short_input(1, b"the mark mask does");
-    receiving::silence(1)
+    receiving::silence(only(1))
 }
 
 // Says why the cells gave no data, where it was not said yet.
@@ -201,14 +209,10 @@ fn receive_cells(p: Profile, marks: u16) -> Receipt {
     let due = 2 * PARTS * block::symbol_count(p.mode);
     let mut state = [0u8; STATE];
     let fed = feed_all(p, &mut state);
-    let number = if fed.number == 0 {
-        after_cells()
-    } else {
-        fed.number
-    };
-    if number != 0 {
-        say_cells(number, fed.came, due);
-        return receiving::silence(number);
+    let a = ended(fed.answer);
+    if a.number != 0 {
+        say_cells(a.number, fed.came, due);
+        return receiving::silence(a);
     }
     let mut data = [0u8; 1708];
     let n = io::count((122 * p.k as u16) as isize, &data);
@@ -225,7 +229,11 @@ fn receive_by(bytes: &mut [u8]) -> Receipt {
     };
     let reading = profile::read(bytes);
     if reading.number != 0 {
-        return refused(reading.number);
+        let a = Answer {
+            number: reading.number,
+            place: reading.place,
+        };
+        return refused(a, bytes);
     }
     let p = reading.profile;
     receive_cells(p, marks)
@@ -286,7 +294,8 @@ Standard input    two bytes of profile length, the profile, a mark mask of two b
 Standard output   17 lines: the number and the lost mask, then each packet and the reason why it was lost (0: it was not), all decimal.
 FILE              at number 0 the data, 122 x K bytes. It is made beside FILE and takes its name when it is whole.
                   For a name that begins with a dash say ./-name.
-Standard error    what a number other than 0 means. Trouble: what can't be read or written.
+Standard error    what a number other than 0 means, with the byte of the profile where a value is outside its range.
+                  Trouble: what can't be read or written.
 
 bin/receive ends with 0 when the number is 0, 1 at any other number, 2 for a wrong use or trouble.
 ",

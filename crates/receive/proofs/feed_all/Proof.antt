@@ -45,6 +45,9 @@ loop-less c = search needs
 loop-again : tie.Need-loop-again Inv-loop μ-loop
 loop-again c = search needs
 
+only-requires : tie.Need-only-requires Inv-loop μ-loop
+only-requires c κs = search needs
+
 same-length-2 : tie.Need-same-length-2 Inv-loop μ-loop
 same-length-2 c = search needs
 
@@ -68,5 +71,6 @@ feed-all-spec =
     add-y
     loop-less
     loop-again
+    only-requires
     same-length-2
     returns-2)
