@@ -23,7 +23,7 @@ fn range(out: &mut [u8], at: usize, number: u32) -> usize {
         41 => put::bytes(
             out,
             at,
-            b"0x00800000 to 0x7F7FFFFF (positive, finite and normal)",
+            b"0x00800000 to 0x7f7fffff (positive, finite and normal)",
         ),
         42 => put::bytes(out, at, b"0 and 1"),
         43 => put::bytes(out, at, b"8, 12 and 14"),
