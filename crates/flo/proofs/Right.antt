@@ -1,16 +1,17 @@
 -- The C calls keep the second and the third sentence: what the card's calls do with a profile, they do with the profile that the bytes say.
 use mathlib.Core.Path.{_≡_, refl, sym, _∙_, ap, subst}
-use mathlib.Core.List.{List}
+use mathlib.Core.Bool.{Bool, true, false}
+use mathlib.Core.List.{List, _++_}
 use mathlib.Core.Logic.{_↔_}
-use Prim.Native.Nat.{ℕ, _<_}
+use Prim.Native.Nat.{ℕ, _-_, _<_}
 use native.Mathlib.Decide.{ℕ-discrete}
 use native.Mathlib.Omega.{arith}
 use lib.Dec.{T}
 use lib.Ieee.{Float}
-use lib.ListN.{take}
-use Rattle.rules.specs.Bits.{row}
+use lib.ListN.{length, replicate, take}
+use Rattle.rules.specs.Bits.{pick, row}
 use Rattle.rules.specs.Answers.{hasRead, namesField}
-use Rattle.rules.specs.Profile.{inRange, reading, writing}
+use Rattle.rules.specs.Profile.{fields, blank, fault, inRange, largest, reading, refused, spelt, writing, written}
 use Rattle.rules.specs.Pieces.{FeedRule, Fed, LeftBy}
 use Rattle.rules.specs.Demands.{Names}
 use Rattle.rules.specs.declared.Answer.{Answer}
@@ -82,6 +83,14 @@ left-said profile state n bytes read iff = (
       (z, λ l. iff z .0 e .1 (l .0, l .1, fed-said profile (l .2)))),
   λ q. iff (q .0) .1 (ranged profile bytes (q .0), λ l. q .1 (l .0, l .1, fed-read profile (q .0) (l .2))),
 )
+
+-- a value that is read and one that is written have one answer
+answers-alike : (P : Profile) (good : Bool)
+    → (let w : Writing = pick good (record { number = 0; place = 0; bytes = written P ++ replicate (largest - length (written P)) 0; count = length (written P) })
+    (record { number = fault P .number; place = fault P .place; bytes = replicate largest 0; count = 0 }) in
+    told (pick good (record { number = 0; place = 0; profile = P }) (refused (fault P))) ≡ record { number = w .number; place = w .place })
+answers-alike P true = refl
+answers-alike P false = refl
 
 -- where the bytes read well, the profile is in its range and no field is named
 names-read : (profile : List ℕ) (a : Answer) {Refused : Answer → Type 0} {Rule : Profile → Type 0}
@@ -158,6 +167,10 @@ calls-right =
           record { answer = sym (ap told e); value = ap (λ (x : Reading). x .profile) e };
       written-read = λ profile masks level mode k seeds a bytes r z.
           record { answer = ap writing (sym (r .value)) ∙ d2 .written-read profile bytes (not-refused profile a z (r .answer)) };
+      refused-alike = λ profile masks level mode k seeds bytes count a b t r w.
+          let P = spelt fields blank profile in
+          r .answer ∙ ap told (d2 .read-refused profile t)
+          ∙ answers-alike P (inRange P) ∙ ap (λ (x : Writing). record { number = x .number; place = x .place }) (w .answer);
       send-names = λ profile d f s f' s' a bytes r.
           names-read profile a bytes r (λ q. q .0) (d2 .send-names (said profile) d f s f' s' a);
       symbol-names = λ profile d symbol f s f' s' a bytes r.

@@ -10,7 +10,7 @@ use lib.ListN.{length, take, replicate}
 use Rattle.rules.specs.Bits.{row}
 use Rattle.rules.specs.Outer.{marked}
 use Rattle.rules.specs.Slots.{symbols}
-use Rattle.rules.specs.Profile.{Shape, only, reading, largest}
+use Rattle.rules.specs.Profile.{Shape, fields, blank, only, reading, headed, spelt, largest}
 use Rattle.rules.specs.Answers.{isNumber, isAnswer, namesField, isReason, hasRead}
 use Rattle.rules.specs.Block.{Cells}
 use Rattle.rules.specs.Pieces.{Fed, LeftBy}
@@ -176,6 +176,12 @@ pub record CallsRight : Type 0 where
       → FloReadProfile profile masks level mode k seeds a
       → a .number ≡ 0
       → FloWriteProfile masks level mode k seeds (profile ++ replicate (largest - length profile) 0) (length profile) (only 0)
+  -- bytes whose headers and lengths are right are refused as the value that stands there is
+  pub refused-alike : (profile masks : List ℕ) (level : Float) (mode k : ℕ) (seeds bytes : List ℕ) (count : ℕ) (a b : Answer)
+      → T (headed fields blank profile)
+      → FloReadProfile profile masks level mode k seeds a
+      → (let P = spelt fields blank profile in FloWriteProfile (P .masks) (P .level) (P .mode) (P .k) (P .seeds) bytes count b)
+      → a ≡ b
   -- 40 to 44 are those of reading, with their places
   pub send-names : (profile d : List ℕ) (f s f' s' : List Float) (a : Answer)
       → ((i : ℕ) → row profile i < 256)

@@ -15,9 +15,11 @@ use Rattle.rules.specs.Turbo.{Rate, half, third, state, ending, codedBit
 use Rattle.rules.specs.Cells.{placeOf, pointAt}
 use Rattle.rules.specs.Examples.{firstOf}
 use Rattle.rules.specs.Answers.{isNumber, namesField, isAnswer, isReason, hasRead}
+use Rattle.rules.specs.Profile.{Tested, Field, fields, blank}
 use Rattle.rules.specs.Slots.{symbols}
 use Rattle.rules.specs.Points.{decide}
 use Rattle.rules.specs.Pieces.{stateBytes, cellByte, isCellByte}
+use Rattle.rules.specs.declared.Profile.{Profile}
 
 -- the f32 of some bits
 abbrev f32 : ℕ → Float
@@ -81,6 +83,19 @@ named-listed = refl
 
 pub placed-listed : passing 256 0 (λ n. isAnswer n 3) ≡ 40 ∷ 41 ∷ 42 ∷ 43 ∷ 44 ∷ []
 placed-listed = refl
+
+-- how many bytes the numbers of each field have
+abbrev pub sizes : List Tested → ℕ
+sizes [] = 0
+sizes (x ∷ xs) = x .size + sizes xs
+
+abbrev pub sizesOf : List Field → Profile → List ℕ
+sizesOf [] p = []
+sizesOf (f ∷ fs) p = sizes (f .tested p) ∷ sizesOf fs p
+
+-- In mode 0, where every seed is in use, they are as many as document 01 gives the fields' values
+pub sizes-listed : sizesOf fields blank ≡ 32 ∷ 4 ∷ 1 ∷ 1 ∷ 192 ∷ []
+sizes-listed = refl
 
 pub read-listed : passing 256 0 hasRead ≡ 0 ∷ 9 ∷ 10 ∷ []
 read-listed = refl

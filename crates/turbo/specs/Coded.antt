@@ -18,7 +18,7 @@ use Rattle.laws.specs.Holds.{Holds}
 use Rattle.laws.specs.Filled.{upTo}
 use Rattle.turbo.specs.Streams.{place}
 
--- coding 122 bytes into as many bits as a packet of the mode has: 4 another mode, 6 too short or too long, and nothing is written then
+-- coding 122 bytes into as many bits as a packet of the mode has: 42 another mode, 6 too short or too long, and nothing is written then
 pub record CodingRule (m : ℕ) (d before after : List ℕ) (a : Coding) : Type 0 where
   pub answer : codingNumber a ≡ pick (not (isMode m)) 42 (pick (not (eqb (length d) 122 && eqb (length before) (packetBits m))) 6 0)
   pub bits : codingNumber a ≡ 0 → Holds 0 (packetBits m) (coded m (packetBit (row d))) after
