@@ -21,7 +21,7 @@ use Rattle.rules.specs.declared.Answer.{Answer}
 use Rattle.rules.specs.declared.Profile.{Profile}
 use Rattle.rules.specs.declared.Receipt.{Receipt}
 use Rattle.laws.specs.Holds.{holds-one}
-use Rattle.profile.proofs.RoundTrip.{writes, read-written, written-read, read-refused, write-names}
+use Rattle.profile.proofs.RoundTrip.{writes, read-written, written-read, read-refused, written-out, write-names}
 use Rattle.profile.proofs.AtFault.{fault-names}
 use Rattle.block.proofs.Passed.{early-right}
 use Rattle.receiving.proofs.States.{feeding-names, asking-names}
@@ -146,6 +146,7 @@ d2 =
       read-written = read-written;
       written-read = written-read;
       read-refused = read-refused;
+      written-out = written-out;
       send-names = λ P d f s f' s' a r.
           fault-names P _ a (unnamed P (length d) (length f) (length s) (4096 * symbols (P .mode))) (r .answer);
       symbol-names = λ P d symbol f s f' s' a r.

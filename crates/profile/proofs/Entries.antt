@@ -2,24 +2,25 @@
 use mathlib.Core.Path.{_≡_, refl, sym, ap, ap₂, _∙_}
 use mathlib.Core.Bool.{Bool, true, false, not, _||_}
 use mathlib.Core.List.{List, [], _∷_, _++_}
-use Prim.Native.Nat.{ℕ, _-_, _*_, _/_, _^_, _<_, _≤_}
+use Prim.Native.Nat.{ℕ, _+_, _-_, _*_, _/_, _^_, _<_, _≤_}
 use native.Mathlib.Omega.{arith}
 use mathlib.Core.Logic.{⊎-elim}
 use mir.Facts.{or-yes}
-use lib.Dec.{T, eqb, ltb, ltb→lt, eqb→eq}
+use lib.Dec.{T, eqb, ltb, ltb→lt, eqb→eq, lit<}
+use native.Mathlib.Decide.{decLt}
 use lib.Ieee.{Float, nan, inf, fin, binary32, fits, ofBits, toBits, isNan, lt, eq, le}
 use lib.Ieee.Bits.{ofBits-toBits, toBits-lt, toBits-ofBits}
 use lib.Ieee.Fits.{and-l, and-r}
-use lib.ListN.{length, take, drop, replicate, take-append-drop, length-drop}
-use lib.Seq.{length-take-le, take-at}
-use Rattle.rules.specs.Bits.{pick}
+use lib.ListN.{length, take, drop, replicate, take-append-drop, length-drop, length-replicate, getD-replicate, List·getD-eq-default}
+use lib.Seq.{length-take-le, take-at, getD-take, getD-drop, ext-getD}
+use Rattle.rules.specs.Bits.{pick, row}
 use Rattle.rules.specs.Outer.{isK}
 use Rattle.rules.specs.Slots.{isMode, slots}
 use Rattle.rules.specs.Profile.{number, words, allBytes, wordBytes, each, in20, isLevel, fields, blank}
 use Rattle.rules.specs.declared.Profile.{Profile}
-use Rattle.rules.specs.Profile.{Shape}
+use Rattle.rules.specs.Profile.{Shape, Whole}
 use Rattle.profile.proofs.Tests.{allGood, good-apart}
-use Rattle.profile.proofs.Words.{Bytes, all-bytes, bytes-length, word-read, word-written, words-length, words-read, words-written, zeros}
+use Rattle.profile.proofs.Words.{Bytes, all-bytes, bytes-length, word-read, word-written, words-length, words-read, good-low, words-written, zeros}
 use Rattle.profile.proofs.Table.{Laws, end, _&_, Ordered, Good, filled}
 
 -- ---- what the ranges give
@@ -78,15 +79,21 @@ seeds-length m l e =
 
 seeds-read : (m : ℕ) (l : List ℕ)
     → length l ≡ 48
-    → T (allGood (each 4 in20 (take (slots m) l) ++ each 4 (eqb 0) (drop (slots m) l)))
+    → ((i : ℕ) → row l i < 2 ^ 32)
+    → ((i : ℕ) → slots m ≤ i → row l i ≡ 0)
     → words (slots m) (allBytes (take (slots m) l)) ++ replicate (48 - slots m) 0 ≡ l
-seeds-read m l e g =
+seeds-read m l e low unused =
     let n = slots m in
-    let both = good-apart (each 4 in20 (take n l)) (each 4 (eqb 0) (drop n l)) g in
-    let rest : 48 - n ≡ length (drop n l) = omega (arith, length-drop n l) in
-    ap₂ _++_ (words-read in20 in20-low n (take n l) (length-take-le n l (omega (arith, slots-most m))) (both .0))
-    (ap (λ (k : ℕ). replicate k 0) rest ∙ sym (zeros (drop n l) (both .1)))
+    let most = slots-most m in
+    let rest : length (drop n l) ≡ 48 - n = length-drop n l ∙ omega arith in
+    ap₂ _++_ (words-read n (take n l) (length-take-le n l (omega arith)) (λ i. first i (decLt i n)))
+    (sym (ext-getD 0 (drop n l) (replicate (48 - n) 0) (rest ∙ sym (length-replicate {A = ℕ} (48 - n) 0))
+    (λ i h. getD-drop n l i 0 ∙ unused (n + i) (omega arith) ∙ sym (getD-replicate (48 - n) i 0 0 (omega arith)))))
     ∙ take-append-drop n l
+  where
+    first : (i : ℕ) → Dec (i < slots m) → row (take (slots m) l) i < 2 ^ 32
+    first i (yes h) = rw (getD-take (slots m) l i 0 h) (low i)
+    first i (no h) = rw (List·getD-eq-default (take (slots m) l) 0 {n = i} (omega (arith, length-take-le (slots m) l (omega (arith, slots-most m))))) (lit< tt)
 
 seeds-written : (n : ℕ) (s : List ℕ) → length s ≡ 4 * n → Bytes s → allBytes (take n (words n s ++ replicate (48 - n) 0)) ≡ s
 seeds-written n s e b =
@@ -141,15 +148,37 @@ laws =
 pub ordered : Ordered fields
 ordered = search
 
-pub whole : (P : Profile) → Shape P → Good fields P → filled fields blank P ≡ P
-whole P S g =
+-- what is filled from a value's bytes is the value
+pub whole : (P : Profile) → Shape P → Whole P → filled fields blank P ≡ P
+whole P S w =
     let seeds =
     ap (λ (m : ℕ). words (slots m) (allBytes (take (slots (P .mode)) (P .seeds))) ++ replicate (48 - slots m) 0) (byte-read (P .mode))
-    ∙ seeds-read (P .mode) (P .seeds) (S .seeds) (g .1 .1 .1 .1 .0) in
+    ∙ seeds-read (P .mode) (P .seeds) (S .seeds) (w .seeds) (w .unused) in
     λ i. record {
-      masks = words-read in20 in20-low 8 (P .masks) (S .masks) (g .0) i;
+      masks = words-read 8 (P .masks) (S .masks) (w .masks) i;
       level = level-read (P .level) (S .level) i;
       mode = byte-read (P .mode) i;
       k = byte-read (P .k) i;
       seeds = seeds i;
     }
+
+-- a value in range is whole
+pub good-whole : (P : Profile) → Good fields P → Whole P
+good-whole P g =
+    let n = slots (P .mode) in
+    let l = P .seeds in
+    let both = good-apart (each 4 in20 (take n l)) (each 4 (eqb 0) (drop n l)) (g .1 .1 .1 .1 .0) in
+    let rest : (i : ℕ) → n ≤ i → row l i ≡ 0 = λ i h.
+    ap (row l) (sym (back n i h)) ∙ sym (getD-drop n l (i - n) 0) ∙ zeros (drop n l) (both .1) (i - n) in
+    record {
+      masks = good-low in20 in20-low (P .masks) (g .0);
+      seeds = λ i. each-low n l (good-low in20 in20-low (take n l) (both .0)) rest i (decLt i n);
+      unused = rest;
+    }
+  where
+    back : (n i : ℕ) → n ≤ i → n + (i - n) ≡ i
+    back n i h = omega arith
+
+    each-low : (n : ℕ) (l : List ℕ) → ((i : ℕ) → row (take n l) i < 2 ^ 32) → ((i : ℕ) → n ≤ i → row l i ≡ 0) → (i : ℕ) → Dec (i < n) → row l i < 2 ^ 32
+    each-low n l low rest i (yes h) = rw (getD-take n l i 0 h) at (low i)
+    each-low n l low rest i (no h) = rw (rest i (omega arith)) (lit< tt)

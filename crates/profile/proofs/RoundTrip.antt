@@ -13,15 +13,15 @@ use Rattle.rules.specs.Answers.{namesField, isAnswer, hasRead}
 use Rattle.rules.specs.Demands.{Names}
 use Rattle.rules.specs.Bits.{pick, row}
 use Rattle.rules.specs.Slots.{slots}
-use Rattle.rules.specs.Profile.{Shape, fields, blank, only, fault, inRange, reading, readAs, headed, spelt, written, writing, largest}
+use Rattle.rules.specs.Profile.{Shape, Whole, fields, blank, only, fault, inRange, reading, readAs, headed, spelt, written, writing, largest}
 use Rattle.rules.specs.declared.Answer.{Answer}
 use Rattle.rules.specs.declared.Profile.{Profile}
 use Rattle.rules.specs.declared.Reading.{Reading}
 use Rattle.rules.specs.declared.Writing.{Writing}
 use Rattle.profile.proofs.Words.{bytes-of, bytes-at}
 use Rattle.profile.proofs.AtFault.{fine, by-fault, named-not-zero, named-unread, named-told, or-fine, or-faulty, fault-names}
-use Rattle.profile.proofs.Table.{good-from, table-read, table-written, table-answer, table-refused, table-length, table-bytes}
-use Rattle.profile.proofs.Entries.{laws, ordered, whole}
+use Rattle.profile.proofs.Table.{good-from, table-read, table-written, table-answer, table-refused, table-spelt, table-length, table-bytes}
+use Rattle.profile.proofs.Entries.{laws, ordered, whole, good-whole}
 
 -- what is written of a profile in range
 abbrev good : List ℕ → Writing
@@ -75,7 +75,7 @@ read-written P S z =
     let g = fine P t .each in
     ap (λ (w : Writing). reading (take (w .count) (w .bytes))) (writing-good P t)
     ∙ ap reading (take-append-seam (written P) (replicate (largest - length (written P)) 0))
-    ∙ table-read fields blank P laws ordered S g (whole P S g)
+    ∙ table-read fields blank P laws ordered S g (whole P S (good-whole P g))
 
 pub written-read : (s : List ℕ)
     → ((i : ℕ) → row s i < 256)
@@ -90,6 +90,13 @@ written-read s b z =
 pub read-refused : (s : List ℕ) → T (headed fields blank s) → reading s ≡ readAs (spelt fields blank s)
 unfolding inRange fault
 read-refused s t = table-refused fields 0 blank s ordered t
+
+-- and the bytes of a value, in range or not, are read so
+pub written-out : (P : Profile) → Shape P → Whole P → reading (written P) ≡ readAs P
+unfolding written
+written-out P S w =
+    let q = table-spelt fields blank P laws ordered S (whole P S w) in
+    read-refused (written P) (q .0) ∙ ap readAs (q .1)
 
 pub read-number : (s : List ℕ)
     → T (isAnswer (reading s .number) (reading s .place)) × (¬ (reading s .number ≡ 0) → reading s .profile ≡ blank)

@@ -7,9 +7,9 @@ use Prim.Native.Nat.{ℕ, suc, _+_, _*_, _/_, _%_, _<_, _≤_}
 use native.Mathlib.Nat.{div-add-mod'}
 use native.Mathlib.Decide.{ℕ-discrete}
 use native.Mathlib.Omega.{arith}
-use lib.Dec.{T, eqb, leb, ltb, leb→le}
+use lib.Dec.{T, eqb, leb, ltb, leb→le, le→leb}
 use lib.Ieee.Bits.{is-true}
-use lib.Ieee.Fits.{and-i, and-l, and-r}
+use lib.Ieee.Fits.{and-i, and-l, and-r, eq→eqb}
 use lib.ListN.{length, take, drop, length-append, take-append-drop}
 use lib.Seq.{length-take-le, take-at, drop-at}
 use borrow.Author.Tests.{eq-eqb, eqb-true, ne-eqb, le-ltb, ltb-false, not-false}
@@ -337,3 +337,27 @@ table-refused (f ∷ fs) at p s O t =
     (ap (unless (faultOf f at q)) (table-refused fs (at + 3 + d) q (drop (3 + d) s) (O .3) (and-r long rest t₃))
     ∙ unless-or (faultOf f at q) (faultFrom fs (at + 3 + d) P) (record { number = 0; place = 0; profile = P })
     ∙ rw (due, tested))))))
+
+-- ---- what is written of any value has right headers, and spells the value
+
+kept-filled : {A : Type 0} (h : Profile → A) (fs : List Field) (p P : Profile) → Keeps h fs → h (filled fs p P) ≡ h p
+kept-filled h [] p P k = refl
+kept-filled h (f ∷ fs) p P k = kept-filled h fs (f .with p (f .bytes P)) P (k .1) ∙ k .0 p (f .bytes P)
+
+pub table-spelt : (fs : List Field) (p P : Profile) → Laws fs → Ordered fs → Shape P → filled fs p P ≡ P
+    → T (headed fs p (fieldBytes fs P)) × (spelt fs p (fieldBytes fs P) ≡ P)
+table-spelt [] p P end O S e = (tt, e)
+table-spelt (f ∷ fs) p P (more law L) O S e =
+    let v = f .bytes P in
+    let rest = fieldBytes fs P in
+    let d : f .due P ≡ f .due p = ap (f .due) (sym e) ∙ kept-filled (f .due) fs (f .with p v) P (O .0 .1) ∙ O .0 .0 p v in
+    let m : length v ≡ f .due p = law .measured P S ∙ d in
+    let long = length-append v rest in
+    let room : suc (suc (suc (f .due p))) ≤ suc (suc (suc (length (v ++ rest)))) = omega arith in
+    let w = table-spelt fs (f .with p v) P L (O .3) S e in
+    rw (three (f .due p), take-at v rest (f .due p) m, drop-at v rest (f .due p) m) (
+      and-i (leb (suc (suc (suc (f .due p)))) (suc (suc (suc (length (v ++ rest)))))) _ (le→leb _ _ room)
+          (and-i (eqb (f .tag) (f .tag)) _ (eq→eqb {a = f .tag} refl)
+          (and-i (eqb (f .due P / 256 * 256 + f .due P % 256) (f .due p)) _ (eq→eqb (div-add-mod' (f .due P) 256 ∙ d)) (w .0))),
+      w .1,
+    )

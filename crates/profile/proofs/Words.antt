@@ -72,19 +72,18 @@ pub all-bytes : (xs : List ℕ) → Bytes (allBytes xs)
 all-bytes [] = tt
 all-bytes (x ∷ xs) = bytes-both (wordBytes x) (allBytes xs) (omega arith) (all-bytes xs)
 
--- numbers in a range below 2^32
-pub words-read : (good : ℕ → Bool)
-    → ((x : ℕ) → T (good x) → x < 2 ^ 32)
-    → (n : ℕ) (xs : List ℕ)
-    → length xs ≡ n
-    → T (allGood (each 4 good xs))
-    → words n (allBytes xs) ≡ xs
-words-read good low zero [] e g = refl
-words-read good low zero (x ∷ xs) e g = absurd (omega arith)
-words-read good low (suc n) [] e g = absurd (omega arith)
-words-read good low (suc n) (x ∷ xs) e g =
-    ap₂ _∷_ (word-read x (low x (and-l (good x) (allGood (each 4 good xs)) g)))
-    (words-read good low n xs (omega arith) (and-r (good x) (allGood (each 4 good xs)) g))
+-- numbers below 2^32
+pub words-read : (n : ℕ) (xs : List ℕ) → length xs ≡ n → ((i : ℕ) → row xs i < 2 ^ 32) → words n (allBytes xs) ≡ xs
+words-read zero [] e low = refl
+words-read zero (x ∷ xs) e low = absurd (omega arith)
+words-read (suc n) [] e low = absurd (omega arith)
+words-read (suc n) (x ∷ xs) e low = ap₂ _∷_ (word-read x (low 0)) (words-read n xs (omega arith) (λ i. low (suc i)))
+
+-- numbers that pass a test are below 2^32 where each that passes is
+pub good-low : (good : ℕ → Bool) → ((x : ℕ) → T (good x) → x < 2 ^ 32) → (xs : List ℕ) → T (allGood (each 4 good xs)) → (i : ℕ) → row xs i < 2 ^ 32
+good-low good low [] g i = omega arith
+good-low good low (x ∷ xs) g zero = low x (and-l (good x) (allGood (each 4 good xs)) g)
+good-low good low (x ∷ xs) g (suc i) = good-low good low xs (and-r (good x) (allGood (each 4 good xs)) g) i
 
 pub words-written : (n : ℕ) (s : List ℕ) → length s ≡ 4 * n → Bytes s → allBytes (words n s) ≡ s
 words-written zero [] e b = refl
@@ -98,7 +97,7 @@ words-written (suc n) s e b =
 
 -- ---- zeros
 
-pub zeros : (s : List ℕ) → T (allGood (each 4 (eqb 0) s)) → s ≡ replicate (length s) 0
-zeros [] z = refl
-zeros (x ∷ s) z =
-    ap₂ _∷_ (sym (eqb→eq 0 x (and-l (eqb 0 x) (allGood (each 4 (eqb 0) s)) z))) (zeros s (and-r (eqb 0 x) (allGood (each 4 (eqb 0) s)) z))
+pub zeros : (s : List ℕ) → T (allGood (each 4 (eqb 0) s)) → (i : ℕ) → row s i ≡ 0
+zeros [] z i = refl
+zeros (x ∷ s) z zero = sym (eqb→eq 0 x (and-l (eqb 0 x) (allGood (each 4 (eqb 0) s)) z))
+zeros (x ∷ s) z (suc i) = zeros s (and-r (eqb 0 x) (allGood (each 4 (eqb 0) s)) z) i

@@ -13,7 +13,7 @@ use Rattle.rules.specs.Packet.{packetBit}
 use Rattle.rules.specs.Outer.{marked}
 use Rattle.rules.specs.Slots.{slotBits, packetBits, slots, symbols, coded}
 use Rattle.rules.specs.Points.{zeroPart, doubtful}
-use Rattle.rules.specs.Profile.{fields, only, fault, inRange, Shape, reading, readAs, headed, spelt, writing, blank, largest}
+use Rattle.rules.specs.Profile.{fields, only, fault, inRange, Shape, Whole, reading, readAs, headed, spelt, written, writing, blank, largest}
 use Rattle.rules.specs.Answers.{isAnswer, namesField, isReason, hasRead}
 use Rattle.rules.specs.Block.{scrambler, sentBit, heard, Cells, SendRule, SendSymbolRule}
 use Rattle.rules.specs.Block.{Accepted, ReceiveRule}
@@ -193,6 +193,8 @@ pub record D2 : Type 0 where
       → writing (reading s .profile) ≡ record { number = 0; place = 0; bytes = s ++ replicate (largest - length s) 0; count = length s }
   -- for bytes whose headers and lengths are right, reading answers what the value so read is refused with, or the value
   pub read-refused : (s : List ℕ) → T (headed fields blank s) → reading s ≡ readAs (spelt fields blank s)
+  -- so the place is counted as if the value had been written out: its bytes, written out in range or not, are read so
+  pub written-out : (P : Profile) → Shape P → Whole P → reading (written P) ≡ readAs P
   -- a call names a field exactly where the profile has a number out of its range, and then it answers what is at fault there
   pub send-names : (P : Profile) (d : List ℕ) (f s f' s' : List Float) (a : Answer) → SendRule P d f s f' s' a → Names P a
   pub symbol-names : (P : Profile) (d : List ℕ) (symbol : ℕ) (f s f' s' : List Float) (a : Answer)

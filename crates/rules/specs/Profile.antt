@@ -2,7 +2,7 @@
 use mathlib.Core.Path.{_≡_}
 use mathlib.Core.Bool.{Bool, true, not, _&&_}
 use mathlib.Core.List.{List, [], _∷_, _++_}
-use Prim.Native.Nat.{ℕ, zero, suc, _+_, _-_, _*_, _/_, _%_, _^_}
+use Prim.Native.Nat.{ℕ, zero, suc, _+_, _-_, _*_, _/_, _%_, _^_, _<_, _≤_}
 use lib.Dec.{T, eqb, leb, ltb}
 use lib.Ieee.{Float, binary32, ofBits, toBits, le, fits}
 use lib.ListN.{length, take, drop, replicate}
@@ -131,6 +131,12 @@ pub record Shape (P : Profile) : Type 0 where
   pub masks : length (P .masks) ≡ 8
   pub level : T (fits binary32 (P .level))
   pub seeds : length (P .seeds) ≡ 48
+
+-- a value all of whose numbers stand in its bytes: masks and seeds fit their four bytes, as an u32 does, and no unused seed is left out
+pub record Whole (P : Profile) : Type 0 where
+  pub masks : (i : ℕ) → row (P .masks) i < 2 ^ 32
+  pub seeds : (i : ℕ) → row (P .seeds) i < 2 ^ 32
+  pub unused : (i : ℕ) → slots (P .mode) ≤ i → row (P .seeds) i ≡ 0
 
 -- ---- what is at fault
 

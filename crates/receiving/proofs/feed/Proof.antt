@@ -23,8 +23,9 @@ taken : (c : tie.Then1)
     × (seen (a .state .now) + length (a .firsts .now) ≤ 4096 * symbols (a .p .mode))
 taken c =
     let a = c .before .before .before .before .before .before .before .args in
+    let done : c .before .before .feeding .result .number ≡ 0 = omega arith in
     feeding-taken (a .p) (a .state .now) (length (a .firsts .now)) (length (a .seconds .now)) .0
-    (sym (ap (λ (x : Answer). x .number) (c .before .before .feeding .ensures)) ∙ c .if1 .taken)
+    (sym (ap (λ (x : Answer). x .number) (c .before .before .feeding .ensures)) ∙ done)
 
 put-requires : tie.Need-put-requires
 put-requires c κs =
