@@ -1,12 +1,12 @@
 -- An answer names a field exactly where the profile has a number out of its range, and then it is what is at fault there: for each call's rule.
-use mathlib.Core.Path.{_≡_, refl, sym, ap, ap₂, subst, _∙_}
+use mathlib.Core.Path.{_≡_, ap, _∙_}
 use mathlib.Core.Bool.{Bool, true, false, not, _&&_}
 use mathlib.Core.List.{List}
 use Prim.Native.Nat.{ℕ, _*_}
 use native.Mathlib.Decide.{ℕ-discrete}
 use lib.Dec.{T, eqb, ltb}
 use Rattle.rules.specs.Bits.{pick}
-use Rattle.rules.specs.Answers.{isNumber, namesField, hasRead}
+use Rattle.rules.specs.Answers.{namesField}
 use Rattle.rules.specs.Profile.{only, _or_, fault}
 use Rattle.rules.specs.Block.{lengths, early, Answered}
 use Rattle.rules.specs.Demands.{Names}

@@ -3,12 +3,11 @@
 use mathlib.Core.Path.{_≡_, refl, sym, ap, _∙_, subst}
 use mathlib.Core.Bool.{Bool, true, false, _&&_, _||_}
 use mathlib.Core.Logic.{_⊎_, inl, inr, ⊎-elim, _↔_}
-use Prim.Native.Nat.{ℕ, _≤_}
-use native.Mathlib.Decide.{ℕ-discrete}
+use Prim.Native.Nat.{ℕ}
 use mir.Facts.{or-yes}
 use lib.Dec.{T, eqb, leb, eqb→eq}
 use lib.Ieee.Bits.{is-true}
-use lib.Ieee.Fits.{and-i, eq→eqb}
+use lib.Ieee.Fits.{and-i}
 use Rattle.rules.specs.Answers.{isNumber, namesField, isAnswer, hasRead}
 use Rattle.rules.specs.Bits.{pick}
 use Rattle.rules.specs.Demands.{Names}
@@ -49,13 +48,8 @@ by-fault P =
 pub fine : (P : Profile) → T (inRange P) → Fine P
 fine P r = ⊎-elim (λ w. w) (λ w. absurd (w .outside r)) (by-fault P)
 
-pub outside-faulty : (P : Profile) → ¬ T (inRange P) → Faulty P
+outside-faulty : (P : Profile) → ¬ T (inRange P) → Faulty P
 outside-faulty P o = ⊎-elim (λ w. absurd (o (w .range))) (λ w. w) (by-fault P)
-
--- what is read off the number
-pub ranged : (P : Profile) → fault P .number ≡ 0 → T (inRange P)
-unfolding inRange
-ranged P z = eq→eqb z
 
 -- ---- an answer in which it comes first
 

@@ -19,7 +19,7 @@ use Rattle.rules.specs.Slots.{isMode, slots}
 use Rattle.rules.specs.Profile.{number, words, allBytes, wordBytes, each, in20, isLevel, fields, blank}
 use Rattle.rules.specs.declared.Profile.{Profile}
 use Rattle.rules.specs.Profile.{Shape, Whole}
-use Rattle.profile.proofs.Tests.{allGood, good-apart}
+use Rattle.profile.proofs.Tests.{good-apart}
 use Rattle.profile.proofs.Words.{Bytes, all-bytes, bytes-length, word-read, word-written, words-length, words-read, good-low, words-written, zeros}
 use Rattle.profile.proofs.Table.{Laws, end, _&_, Ordered, Good, filled}
 

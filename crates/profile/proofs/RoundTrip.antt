@@ -13,7 +13,7 @@ use Rattle.rules.specs.Answers.{namesField, isAnswer, hasRead}
 use Rattle.rules.specs.Demands.{Names}
 use Rattle.rules.specs.Bits.{pick, row}
 use Rattle.rules.specs.Slots.{slots}
-use Rattle.rules.specs.Profile.{Shape, Whole, fields, blank, only, fault, inRange, reading, readAs, headed, spelt, written, writing, largest}
+use Rattle.rules.specs.Profile.{Shape, Whole, fields, blank, fault, inRange, reading, readAs, headed, spelt, written, writing, largest}
 use Rattle.rules.specs.declared.Answer.{Answer}
 use Rattle.rules.specs.declared.Profile.{Profile}
 use Rattle.rules.specs.declared.Reading.{Reading}

@@ -1,5 +1,5 @@
 -- A value with a number out of its range is refused; of any other, the stored bytes and zeros after them.
-use mathlib.Core.Path.{_≡_, sym, ap, _∙_}
+use mathlib.Core.Path.{sym, ap, _∙_}
 use Rattle.rules.specs.Profile.{Shape, fault}
 use Rattle.rules.specs.declared.Answer.{Answer}
 use Rattle.profile.proofs.Written.{written-most, writing-of, writing-not}
