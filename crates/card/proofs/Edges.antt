@@ -1,6 +1,6 @@
 -- The demands at the ends of their bounds, by numbers written out here: the last packet, byte, bit and cell, three wrong bits, as many lost as there is
 -- parity, and one more. A demand with a narrower bound would not give these.
-use mathlib.Core.Path.{_≡_, refl, sym, ap, ap₂, _∙_}
+use mathlib.Core.Path.{_≡_, refl, sym, ap, ap₂, _∙_, subst}
 use mathlib.Core.Bool.{true}
 use mathlib.Core.List.{List}
 use mathlib.Core.Logic.{_⊎_, _↔_}
@@ -8,13 +8,13 @@ use Prim.Native.Nat.{ℕ, suc, _+_, _-_, _*_, _/_, _%_, _<_, _≤_}
 use native.Mathlib.Omega.{arith}
 use lib.Dec.{T, lit<}
 use lib.Ieee.{Float}
-use lib.ListN.{length, getD}
+use lib.ListN.{length, getD, List·getD-eq-default}
 use borrow.Author.Tests.{lt-ltb, eq-eqb, ne-eqb}
 use Rattle.rules.specs.Bits.{row, differ}
 use Rattle.rules.specs.Outer.{marked}
-use Rattle.rules.specs.Slots.{packetBits, symbols}
+use Rattle.rules.specs.Slots.{packetBits, slots, symbols}
 use Rattle.rules.specs.Points.{zeroPart, firstPart, secondPart}
-use Rattle.rules.specs.Profile.{only, inRange}
+use Rattle.rules.specs.Profile.{only, inRange, Shape, reading, readAs, written}
 use Rattle.rules.specs.Answers.{isReason}
 use Rattle.rules.specs.Block.{Cells, sentCell, SendRule, SendSymbolRule, Accepted, ReceiveRule}
 use Rattle.rules.specs.Pieces.{seen, isState, askingNumber, asking, FeedRule, AskRule, Fed}
@@ -148,3 +148,29 @@ module _ (P : Profile) (d : List ℕ) (marks : ℕ) (f s : List Float) (before a
 
   pub one-too-many : Members (Lost P marks d f s) 16 (suc (16 - P .k)) → (a .number ≡ 9) × (after ≡ before)
   one-too-many m = all .2 (suc (16 - P .k)) m (omega arith)
+
+-- a value whose masks and seeds have all 32 bits, each mode with the seeds that it uses: its bytes are read as the value is refused
+pub all-bits-0 : (P : Profile) → Shape P → P .mode ≡ 0
+    → ((i : ℕ) → row (P .masks) i ≤ 0xFFFF_FFFF)
+    → ((i : ℕ) → row (P .seeds) i ≤ 0xFFFF_FFFF)
+    → reading (written P) ≡ readAs P
+all-bits-0 P S e a b =
+    d2 .written-out P S
+    (record {
+      masks = λ i. omega (arith, a i);
+      seeds = λ i. omega (arith, b i);
+      unused = λ i h. List·getD-eq-default (P .seeds) 0 {n = i} (omega (arith, S .seeds, subst (λ (m : ℕ). slots m ≤ i) e h));
+    })
+
+pub all-bits-1 : (P : Profile) → Shape P → P .mode ≡ 1
+    → ((i : ℕ) → row (P .masks) i ≤ 0xFFFF_FFFF)
+    → ((i : ℕ) → row (P .seeds) i ≤ 0xFFFF_FFFF)
+    → ((i : ℕ) → 32 ≤ i → row (P .seeds) i ≡ 0)
+    → reading (written P) ≡ readAs P
+all-bits-1 P S e a b rest =
+    d2 .written-out P S
+    (record {
+      masks = λ i. omega (arith, a i);
+      seeds = λ i. omega (arith, b i);
+      unused = λ i h. rest i (subst (λ (m : ℕ). slots m ≤ i) e h);
+    })
