@@ -109,7 +109,7 @@ only-or n m = go (eqb n 0)
     go false = refl
 
 named-number : (n : ℕ) → T (namesField n) → T (isNumber n)
-named-number n t = go (leb n 3 || leb 5 n && leb n 10 || eqb n 16 || eqb n 17 || eqb n 22) (namesField n) t
+named-number n t = go (leb n 3 || leb 5 n && leb n 10 || leb 16 n && leb n 18 || eqb n 22) (namesField n) t
   where
     go : (b c : Bool) → T c → T (b || c)
     go true c t = tt

@@ -1,4 +1,4 @@
--- P1 to P12 of document 01, and the places that Req 01 and Req 04 of document 02 name, hold of the rules as they are written.
+-- P1 to P12 of document 01, and what Req 01, Req 04 and Req 05 of document 02 name, hold of the rules as they are written.
 use mathlib.Core.Path.{refl}
 use lib.Ieee as Ieee
 use Rattle.rules.specs.Examples.{Hold, examples}
@@ -11,7 +11,8 @@ use Rattle.rules.specs.Slots.{both, scramblerStep, scramblerState}
 use Rattle.rules.specs.Points.{decide}
 use Rattle.rules.specs.Cells.{placeOf, pointAt}
 use Rattle.rules.specs.Profile.{fault, walk, written}
+use Rattle.rules.specs.Compare.{differing, filled, comparingNumber}
 
 pub examples-hold : Hold examples
-unfolding _⊗_ double times alpha generator remainder nextKept counter count address state both scramblerStep scramblerState decide placeOf pointAt fault walk written Ieee.ofBits Ieee.toBits Ieee.lt Ieee.eq Ieee.le Ieee.neg
-examples-hold = (refl, (refl, (refl, (refl, (refl, (refl, (refl, (refl, (refl, (refl, (refl, (refl, (refl, (refl, (refl, (refl, (refl, (refl, (refl, (refl, (refl, (refl, (refl, (refl, (refl, (refl, (refl, (refl, (refl, (refl, (refl, (refl, tt))))))))))))))))))))))))))))))))
+unfolding _⊗_ double times alpha generator remainder nextKept counter count address state both scramblerStep scramblerState decide placeOf pointAt fault walk written differing filled comparingNumber Ieee.ofBits Ieee.toBits Ieee.lt Ieee.eq Ieee.le Ieee.neg
+examples-hold = (refl, (refl, (refl, (refl, (refl, (refl, (refl, (refl, (refl, (refl, (refl, (refl, (refl, (refl, (refl, (refl, (refl, (refl, (refl, (refl, (refl, (refl, (refl, (refl, (refl, (refl, (refl, (refl, (refl, (refl, (refl, (refl, (refl, (refl, (refl, (refl, (refl, (refl, (refl, (refl, (refl, (refl, (refl, (refl, tt))))))))))))))))))))))))))))))))))))))))))))

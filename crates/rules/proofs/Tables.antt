@@ -5,7 +5,7 @@ use mathlib.Core.List.{List, [], _∷_}
 use Prim.Native.Nat.{ℕ, zero, suc, _+_, _-_, _*_, _/_, _%_}
 use lib.Dec.{T, eqb, leb, ltb}
 use lib.Ieee.{Float, binary32, ofBits, lt}
-use Rattle.rules.specs.Bits.{pick, everyBelow, row, bitOf, asNumber, byteBit}
+use Rattle.rules.specs.Bits.{pick, everyBelow, passing, row, bitOf, asNumber, byteBit}
 use Rattle.rules.specs.Packet.{checkStep, checkRegister, checkWord}
 use Rattle.rules.specs.Field.{_⊗_, double, times, alpha}
 use Rattle.rules.specs.Outer.{generator, value}
@@ -68,13 +68,8 @@ pub third-sent : sentFour third 0b0100 0b1110 ∷ sentFour third 0b0010 0b0111 �
 unfolding codedBit state ending
 third-sent = refl
 
--- which of the n numbers from k on pass a test
-abbrev pub passing : ℕ → ℕ → (ℕ → Bool) → List ℕ
-passing zero k f = []
-passing (suc n) k f = let rest = passing n (suc k) f in pick (f k) (k ∷ rest) rest
-
 -- The table of what the desk says back has these numbers and no other below a byte's 256, receiving reads the cells at these, and gives these reasons
-pub numbers-listed : passing 256 0 isNumber ≡ 0 ∷ 1 ∷ 2 ∷ 3 ∷ 5 ∷ 6 ∷ 7 ∷ 8 ∷ 9 ∷ 10 ∷ 16 ∷ 17 ∷ 22 ∷ 40 ∷ 41 ∷ 42 ∷ 43 ∷ 44 ∷ []
+pub numbers-listed : passing 256 0 isNumber ≡ 0 ∷ 1 ∷ 2 ∷ 3 ∷ 5 ∷ 6 ∷ 7 ∷ 8 ∷ 9 ∷ 10 ∷ 16 ∷ 17 ∷ 18 ∷ 22 ∷ 40 ∷ 41 ∷ 42 ∷ 43 ∷ 44 ∷ []
 numbers-listed = refl
 
 -- of these, the ones that name a field and have a place

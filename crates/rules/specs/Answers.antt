@@ -11,10 +11,10 @@ use Rattle.rules.specs.declared.Coding.the-variants.{Coded, WrongMode, W
 abbrev pub namesField : ℕ → Bool
 namesField n = leb 40 n && leb n 44
 
--- 0 done, 1 to 3 and 5 to 10 the refusals; and those of document 02: 16 too many cells, 17 the last cell not yet seen, 22 no such state, and 40 to 44,
--- which stand where 4 stood
+-- 0 done, 1 to 3 and 5 to 10 the refusals; and those of document 02: 16 too many cells, 17 the last cell not yet seen, 18 the four lists not all of one
+-- length, 22 no such state, and 40 to 44, which stand where 4 stood
 abbrev pub isNumber : ℕ → Bool
-isNumber n = leb n 3 || leb 5 n && leb n 10 || eqb n 16 || eqb n 17 || eqb n 22 || namesField n
+isNumber n = leb n 3 || leb 5 n && leb n 10 || leb 16 n && leb n 18 || eqb n 22 || namesField n
 
 -- a number of the table, and a place only where it names a field
 abbrev pub isAnswer : ℕ → ℕ → Bool

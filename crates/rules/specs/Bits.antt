@@ -1,7 +1,7 @@
 -- Bits, and a choice by a test. A bit is the number 0 or 1, and bits are added modulo 2.
 -- A row of bits, bytes or field elements is a function of the index, from 0.
 use mathlib.Core.Bool.{Bool, true, false, _&&_}
-use mathlib.Core.List.{List}
+use mathlib.Core.List.{List, [], _∷_}
 use Prim.Native.Nat.{ℕ, zero, suc, _+_, _-_, _*_, _/_, _%_, _^_}
 use lib.Dec.{eqb}
 use lib.ListN.{getD}
@@ -14,6 +14,11 @@ pick false a b = b
 abbrev pub everyBelow : ℕ → (ℕ → Bool) → Bool
 everyBelow zero f = true
 everyBelow (suc n) f = everyBelow n f && f n
+
+-- which of the n numbers from k on pass a test, in rising order
+abbrev pub passing : ℕ → ℕ → (ℕ → Bool) → List ℕ
+passing zero k f = []
+passing (suc n) k f = let rest = passing n (suc k) f in pick (f k) (k ∷ rest) rest
 
 -- a list as a row, with zeros after its end
 abbrev pub row : List ℕ → ℕ → ℕ

@@ -1,4 +1,4 @@
--- The founder's three sentences as propositions about the calls' rules. That every call comes back, with no `requires`, and answers by its rule is
+-- The founder's three sentences, and what Req 05 of document 02 promises, as propositions about the calls' rules. That every call comes back, with no `requires`, and answers by its rule is
 -- each function's own contract; card/proofs proves these.
 use mathlib.Core.Path.{_≡_}
 use mathlib.Core.List.{List, _++_}
@@ -14,11 +14,13 @@ use Rattle.rules.specs.Outer.{marked}
 use Rattle.rules.specs.Slots.{slotBits, packetBits, slots, symbols, coded}
 use Rattle.rules.specs.Points.{zeroPart, doubtful}
 use Rattle.rules.specs.Profile.{fields, only, fault, inRange, Shape, Whole, reading, readAs, headed, spelt, written, writing, blank, largest}
-use Rattle.rules.specs.Answers.{isAnswer, namesField, isReason, hasRead}
+use Rattle.rules.specs.Answers.{isNumber, isAnswer, namesField, isReason, hasRead}
 use Rattle.rules.specs.Block.{scrambler, sentBit, heard, Cells, SendRule, SendSymbolRule}
 use Rattle.rules.specs.Block.{Accepted, ReceiveRule}
 use Rattle.rules.specs.Pieces.{FeedRule, AskRule, Fed, LeftBy}
+use Rattle.rules.specs.Compare.{Grids, differs, differing, difference, CompareRule, symbolAlone, inTurn, total}
 use Rattle.rules.specs.declared.Answer.{Answer}
+use Rattle.rules.specs.declared.Comparison.{Comparison}
 use Rattle.rules.specs.declared.Profile.{Profile}
 use Rattle.rules.specs.declared.Receipt.{Receipt}
 
@@ -40,6 +42,9 @@ pub record D1 : Type 0 where
   pub ask : (P : Profile) (marks : ℕ) (state before after : List ℕ) (a : Receipt)
       → AskRule P marks state before after a
       → T (isAnswer (a .number) (a .place)) × ((p : ℕ) → p < 16 → T (isReason (row (a .reasons) p))) × (¬ (a .number ≡ 0) → after ≡ before)
+  pub compare : (from : ℕ) (G : Grids) (before after : List ℕ) (a : Comparison)
+      → CompareRule from G before after a
+      → T (isNumber (a .number)) × (¬ (a .number ≡ 0) → after ≡ before)
   pub read : (s : List ℕ)
       → T (isAnswer (reading s .number) (reading s .place)) × (¬ (reading s .number ≡ 0) → reading s .profile ≡ blank)
   pub write : (P : Profile)
@@ -275,3 +280,54 @@ pub record D3 : Type 0 where
       → AskRule P marks state before after a
       → T (hasRead (a .number))
       → BringsBack P marks d f s before after (a .lost) (a .number)
+
+-- ---- Req 05. Two grids side by side: the differences exactly, each once, in order, none left out
+
+-- all four lists have so many symbols
+abbrev pub Symbols : Grids → ℕ → Type 0
+Symbols G n =
+    (length (G .firsts-a) ≡ 4096 * n) × (length (G .seconds-a) ≡ 4096 * n) × (length (G .firsts-b) ≡ 4096 * n) × (length (G .seconds-b) ≡ 4096 * n)
+
+pub record SideBySide : Type 0 where
+  -- grids are compared exactly where they are whole symbols, as many in each of the four lists; no cell differs exactly where they are the same
+  pub compares : (from : ℕ) (G : Grids) (before after : List ℕ) (a : Comparison)
+      → CompareRule from G before after a
+      → (a .number ≡ 0) ↔ ((n : ℕ) × Symbols G n)
+  pub same : (from : ℕ) (G : Grids) (before after : List ℕ) (a : Comparison)
+      → CompareRule from G before after a
+      → a .number ≡ 0
+      → (a .count ≡ 0) ↔ ((G .firsts-a ≡ G .firsts-b) × (G .seconds-a ≡ G .seconds-b))
+  -- the cells that count as differing do, they rise, so that none is there twice, and no cell that differs is left out
+  pub each-differs : (G : Grids) (k : ℕ)
+      → k < length (differing G)
+      → (row (differing G) k < length (G .firsts-a)) × T (differs G (row (differing G) k))
+  pub rising : (G : Grids) (k l : ℕ) → k < l → l < length (differing G) → row (differing G) k < row (differing G) l
+  pub none-left-out : (G : Grids) (i : ℕ)
+      → i < length (G .firsts-a)
+      → T (differs G i)
+      → (k : ℕ) × (k < length (differing G)) × (row (differing G) k ≡ i)
+  -- the lent list stays as long as it was. Difference k has the six numbers from 6 * k on, if they fit whole; behind the last one all is as it was
+  pub as-long : (from : ℕ) (G : Grids) (before after : List ℕ) (a : Comparison) → CompareRule from G before after a → length after ≡ length before
+  pub listed : (from : ℕ) (G : Grids) (before after : List ℕ) (a : Comparison) (k j : ℕ)
+      → CompareRule from G before after a
+      → a .number ≡ 0
+      → k < a .count
+      → 6 * k + 6 ≤ length before
+      → j < 6
+      → row after (6 * k + j) ≡ row (difference from G (row (differing G) k)) j
+  pub behind : (from : ℕ) (G : Grids) (before after : List ℕ) (a : Comparison) (j : ℕ)
+      → CompareRule from G before after a
+      → (6 * a .count ≤ j) ⊎ (length before < 6 * (j / 6) + 6)
+      → row after j ≡ row before j
+  pub one-comparison : (from : ℕ) (G : Grids) (before after after' : List ℕ) (a b : Comparison)
+      → CompareRule from G before after a
+      → CompareRule from G before after' b
+      → (a ≡ b) × (after ≡ after')
+  -- symbol by symbol, each with room for all its cells, gives what the whole grids give
+  pub symbol-by-symbol : (from n : ℕ) (G : Grids) (before after : List ℕ) (a : Comparison) (answers : ℕ → Comparison) (rooms lists : ℕ → List ℕ)
+      → Symbols G n
+      → CompareRule from G before after a
+      → ((y : ℕ) → y < n → (6 * 4096 ≤ length (rooms y)) × CompareRule (from + y) (symbolAlone G y) (rooms y) (lists y) (answers y))
+      → ((y : ℕ) → y < n → answers y .number ≡ 0)
+      × (a .count ≡ total n (λ y. answers y .count))
+      × (6 * a .count ≤ length before → take (6 * a .count) after ≡ inTurn n (λ y. take (6 * answers y .count) (lists y)))

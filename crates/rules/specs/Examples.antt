@@ -1,12 +1,12 @@
--- Document 01, "Bench examples", those marked P, and the places that document 02 names (Req 01 of points, Req 04 of what is at fault in a profile): what
--- the rules give, and what the documents say.
+-- Document 01, "Bench examples", those marked P, and what document 02 names (Req 01 the places of points, Req 04 those of what is at fault in a profile,
+-- Req 05 two grids side by side): what the rules give, and what the documents say.
 use mathlib.Core.Path.{_≡_}
 use mathlib.Core.List.{List, [], _∷_, _++_}
 use Prim.Native.Nat.{ℕ, zero, suc, _-_}
 use lib.Dec.{eqb}
 use lib.Ieee.{binary32, ofBits, toBits}
 use lib.ListN.{replicate}
-use Rattle.rules.specs.Bits.{pick, row}
+use Rattle.rules.specs.Bits.{pick, row, passing}
 use Rattle.rules.specs.Outer.{remainder}
 use Rattle.rules.specs.Kept.{counter}
 use Rattle.rules.specs.Interleaver.{tableD, address, bitInterleaved}
@@ -15,6 +15,7 @@ use Rattle.rules.specs.Slots.{scrambling, symbolOf, slotNumber}
 use Rattle.rules.specs.Points.{pointOf, decide}
 use Rattle.rules.specs.Cells.{placeOf, pointAt, cellOf}
 use Rattle.rules.specs.Profile.{fault, reading, written}
+use Rattle.rules.specs.Compare.{grids, differing, difference, filled, comparingNumber}
 use Rattle.rules.specs.declared.Profile.{Profile}
 
 -- f 0, .., f (n - 1)
@@ -25,11 +26,6 @@ firstOf (suc n) f = f 0 ∷ firstOf n (λ k. f (suc k))
 -- a row that is 1 at i and 0 elsewhere
 abbrev pub only : ℕ → ℕ → ℕ
 only i k = pick (eqb k i) 1 0
-
--- the i below n, counted from k, at which a row of bits is 1
-abbrev pub onesOf : ℕ → ℕ → (ℕ → ℕ) → List ℕ
-onesOf zero k f = []
-onesOf (suc n) k f = let rest = onesOf n (suc k) f in pick (eqb (f k) 1) (k ∷ rest) rest
 
 pub record Example : Type 0 where
   pub given : List ℕ
@@ -57,6 +53,10 @@ asValue P = fault P .number ∷ fault P .place ∷ []
 abbrev pub asBytes : Profile → List ℕ
 asBytes P = reading (written P) .number ∷ reading (written P) .place ∷ []
 
+-- two differences
+abbrev pub twoOf : List (List ℕ)
+twoOf = (0 ∷ 0 ∷ 1 ∷ 2 ∷ 3 ∷ 4 ∷ []) ∷ (0 ∷ 1 ∷ 5 ∷ 6 ∷ 7 ∷ 8 ∷ []) ∷ []
+
 abbrev pub examples : List Example
 examples =
     -- P1 first encoder, 1 then zeros
@@ -75,7 +75,7 @@ examples =
     -- P6 L = 2000: first outputs
     ∷ record { given = firstOf 4 (bitInterleaved 2000); said = 0 ∷ 500 ∷ 1000 ∷ 1500 ∷ [] }
     -- P7 seed 1, mask 1: the ones among outputs 0 to 20
-    ∷ record { given = onesOf 21 0 (scrambling 1 1); said = 0 ∷ 17 ∷ 20 ∷ [] }
+    ∷ record { given = passing 21 0 (λ i. eqb (scrambling 1 1 i) 1); said = 0 ∷ 17 ∷ 20 ∷ [] }
     -- P8 interlace 0, places 249 and 250
     ∷ record { given = cellOf 0 249 ∷ cellOf 0 250 ∷ []; said = 2040 ∷ 2056 ∷ [] }
     -- P9 interlace 3: first and last
@@ -116,4 +116,36 @@ examples =
     -- and one with nothing at fault
     ∷ record { given = asValue (valueOf (replicate 8 0xF_FFFF) someLevel 0 8 (replicate 48 0xF_FFFF)); said = 0 ∷ 0 ∷ [] }
     ∷ record { given = asBytes (valueOf (replicate 8 1) someLevel 1 12 (replicate 32 1 ++ replicate 16 0)); said = 0 ∷ 0 ∷ [] }
+    -- Req 05 +0.0 and -0.0, the same NaN, another NaN in the second part, the same numbers, a NaN with the other sign
+    ∷ record {
+      given = differing
+          (grids (0 ∷ 0x7FC0_0000 ∷ 0 ∷ 1 ∷ 0x7F80_0001 ∷ [])
+          (0 ∷ 0 ∷ 0x7FC0_0000 ∷ 2 ∷ 0 ∷ [])
+          (0x8000_0000 ∷ 0x7FC0_0000 ∷ 0 ∷ 1 ∷ 0xFF80_0001 ∷ [])
+          (0 ∷ 0 ∷ 0x7FC0_0001 ∷ 2 ∷ 0 ∷ []));
+      said = 0 ∷ 2 ∷ 4 ∷ [];
+    }
+    -- Req 05 symbol, cell, the two parts of the one and of the other; the symbols counted from one that is given
+    ∷ record { given = difference 0 (grids (1 ∷ []) (2 ∷ []) (3 ∷ []) (4 ∷ [])) 0; said = 0 ∷ 0 ∷ 1 ∷ 2 ∷ 3 ∷ 4 ∷ [] }
+    ∷ record { given = difference 0 (grids [] [] [] []) 4095; said = 0 ∷ 4095 ∷ 0 ∷ 0 ∷ 0 ∷ 0 ∷ [] }
+    ∷ record { given = difference 5 (grids [] [] [] []) 8193; said = 7 ∷ 1 ∷ 0 ∷ 0 ∷ 0 ∷ 0 ∷ [] }
+    ∷ record { given = difference 0xFFFF_FFFF (grids [] [] [] []) 4096; said = 0 ∷ 0 ∷ 0 ∷ 0 ∷ 0 ∷ 0 ∷ [] }
+    -- Req 05 two differences in a list with one number to spare, in one that is one too short, and where none fits
+    ∷ record { given = filled twoOf (replicate 13 9); said = 0 ∷ 0 ∷ 1 ∷ 2 ∷ 3 ∷ 4 ∷ 0 ∷ 1 ∷ 5 ∷ 6 ∷ 7 ∷ 8 ∷ 9 ∷ [] }
+    ∷ record { given = filled twoOf (replicate 12 9); said = 0 ∷ 0 ∷ 1 ∷ 2 ∷ 3 ∷ 4 ∷ 0 ∷ 1 ∷ 5 ∷ 6 ∷ 7 ∷ 8 ∷ [] }
+    ∷ record { given = filled twoOf (replicate 11 9); said = 0 ∷ 0 ∷ 1 ∷ 2 ∷ 3 ∷ 4 ∷ 9 ∷ 9 ∷ 9 ∷ 9 ∷ 9 ∷ [] }
+    ∷ record { given = filled twoOf (replicate 5 9); said = 9 ∷ 9 ∷ 9 ∷ 9 ∷ 9 ∷ [] }
+    -- Req 05 empty grids, one symbol, seven; one cell too many, 7; a list of another length, 18, also where none is whole symbols
+    ∷ record {
+      given = comparingNumber 0 0 0 0 ∷ comparingNumber 4096 4096 4096 4096 ∷ comparingNumber 28672 28672 28672 28672 ∷ [];
+      said = 0 ∷ 0 ∷ 0 ∷ [];
+    }
+    ∷ record {
+      given = comparingNumber 1 1 1 1 ∷ comparingNumber 4095 4095 4095 4095 ∷ comparingNumber 4097 4097 4097 4097 ∷ [];
+      said = 7 ∷ 7 ∷ 7 ∷ [];
+    }
+    ∷ record {
+      given = comparingNumber 1 0 0 0 ∷ comparingNumber 0 1 0 0 ∷ comparingNumber 0 0 4096 0 ∷ comparingNumber 3 3 3 2 ∷ [];
+      said = 18 ∷ 18 ∷ 18 ∷ 18 ∷ [];
+    }
     ∷ []

@@ -12,5 +12,6 @@ pub mod Profile
 pub mod Answers
 pub mod Block
 pub mod Pieces
+pub mod Compare
 pub mod Demands
 pub mod Examples

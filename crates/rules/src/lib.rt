@@ -66,6 +66,12 @@ pub struct Receipt {
     pub reasons: [u8; 16],
 }
 
+// What comparing two grids answers: how many cells differ, zero at every number but 0.
+pub struct Comparison {
+    pub number: u32,
+    pub count: u64,
+}
+
 // What coding one packet answers.
 pub enum Coding {
     Coded,
