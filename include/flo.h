@@ -6,11 +6,11 @@
 
    What a call writes is of two kinds:
    - Answers, which come back through the result pointers: `place` of every call that has a profile; `lost` and `reasons` of flo_receive and
-     flo_ask; `masks`, `level`, `mode`, `k` and `seeds` of flo_read_profile; `profile` and `count` of flo_write_profile. They are written at every
-     return, whatever they held before: on a refusal with zeros, except that flo_receive and flo_ask still say at 9 and 10 which packets are lost and
-     why, and that `place` says at 40 to 44 where the faulty number is.
-   - Lent memory: the cell lists of a send, the `state` of flo_feed, the `data` of flo_receive and flo_ask, the `block` of flo_parity. On a
-     refusal it keeps what it held.
+     flo_ask; `masks`, `level`, `mode`, `k` and `seeds` of flo_read_profile; `profile` and `count` of flo_write_profile; `count` of flo_compare. They
+     are written at every return, whatever they held before: on a refusal with zeros, except that flo_receive and flo_ask still say at 9 and 10 which
+     packets are lost and why, and that `place` says at 40 to 44 where the faulty number is.
+   - Lent memory: the cell lists of a send, the `state` of flo_feed, the `data` of flo_receive and flo_ask, the `block` of flo_parity, the
+     `differences` of flo_compare. On a refusal it keeps what it held.
 
    A call keeps nothing for the next one (what flo_feed has to remember is in the caller's state), and the library has no memory of its own and asks
    for none. Calls may run on several threads at once, as long as none writes what another one reads or writes. The library calls memcpy, memmove and
@@ -37,6 +37,7 @@ extern "C" {
 #define FLO_SEEDS 48                              /* places for seeds in a profile as a value; mode 1 uses 32, and the others are zero */
 #define FLO_MOST_PROFILE 245                      /* bytes of the longest profile; the other length is 181, in mode 1 */
 #define FLO_STATE 28674                           /* bytes of flo_feed's state, in both modes: 2, and one for each cell of the largest grid */
+#define FLO_DIFFERENCE 6                          /* numbers that flo_compare lists for a difference */
 
 /* A thread with a stack of this many bytes can make every call. As measured on x86-64, a call takes at most 144,000 of them (docs/MEASURED.md). */
 #define FLO_STACK 262144
@@ -54,12 +55,14 @@ enum flo_number {
     FLO_WRONG_LENGTH = 3,    /* a field's declared length is wrong */
     FLO_FIELD_MISSING = 5,   /* the profile ends between fields with one due */
     FLO_DATA_LENGTH = 6,     /* the data isn't k * 122 bytes long (flo_parity: the block isn't 1952) */
-    FLO_CELLS_LENGTH = 7,    /* a cell list isn't 4096 x symbols long, or 4096 for a single symbol (flo_feed: the two lists differ in length) */
+    FLO_CELLS_LENGTH = 7,    /* a cell list isn't 4096 x symbols long, or 4096 for a single symbol (flo_feed: the two lists differ in length;
+                                flo_compare: the lists aren't whole symbols) */
     FLO_NO_SUCH_SYMBOL = 8,  /* the symbol's number is outside the grid */
     FLO_TOO_MANY_LOST = 9,   /* more than 16 - k packets are lost */
     FLO_NO_CODEWORD = 10,    /* few enough are lost, but some accepted packet can't be right: in a column no codeword agrees */
     FLO_TOO_MANY_CELLS = 16, /* the piece reaches past the grid's end */
     FLO_CELLS_MISSING = 17,  /* the grid's last cell hasn't come yet */
+    FLO_LENGTHS_DIFFER = 18, /* flo_compare: the four lists aren't all of one length */
     FLO_NO_SUCH_STATE = 22,  /* no feeding with this profile leaves such a state */
     FLO_BAD_MASK = 40,       /* a mask isn't from 1 to 2^20 - 1 */
     FLO_BAD_LEVEL = 41,      /* the level isn't positive, finite and normal */
@@ -132,6 +135,17 @@ uint32_t flo_write_profile(const uint32_t masks[8], float level, uint8_t mode, u
 /* Fills packets k to 15 of a block of 16 packets of 122 bytes with the outer parity of the k before them: 0, 43 where k isn't 8, 12 or 14, 6 where
    the block isn't 1952 bytes long. There is no profile here, and so no place. */
 uint32_t flo_parity(uint8_t k, uint8_t *block, size_t block_length);
+
+/* Compares two grids A and B: 0, 18, 7. Each is two lists of f32 bit patterns, the 32 bits of a float as memcpy takes them, and has any number of whole
+   symbols (4096 cells), the same in all four lists; none is fine too. Patterns are compared and not values: +0.0 and -0.0 differ, and a NaN equals only
+   the same bits.
+   At 0 `count` is how many cells differ, and `differences` lists them by rising symbol and cell, FLO_DIFFERENCE numbers each: symbol, cell, first and
+   second part of A, first and second part of B. If the list is too short, it has the first differences that fit whole, what lies behind them keeps what it
+   held, and `count` is still that of all. On a refusal `count` is 0. There is no profile here, and so no place. (A symbol's number is listed in 32 bits;
+   only of grids with more than 2^32 symbols that isn't the whole number.) */
+uint32_t flo_compare(const uint32_t *firsts_a, size_t firsts_a_length, const uint32_t *seconds_a, size_t seconds_a_length, const uint32_t *firsts_b,
+                     size_t firsts_b_length, const uint32_t *seconds_b, size_t seconds_b_length, uint32_t *differences, size_t differences_length,
+                     uint64_t *count);
 
 #ifdef __cplusplus
 }
