@@ -1,0 +1,4 @@
+pub mod Lengths
+pub mod Filling
+pub mod Passing
+pub mod Going
