@@ -2,7 +2,7 @@
 use mathlib.Core.Path.{_≡_, refl, sym, subst, _∙_}
 use mathlib.Core.Bool.{Bool, true, false, not}
 use mathlib.Core.List.{List}
-use Prim.Native.Nat.{ℕ, _*_, _<_}
+use Prim.Native.Nat.{ℕ, _*_, _%_, _<_}
 use native.Mathlib.Decide.{ℕ-discrete}
 use lib.Dec.{T, eqb, ltb}
 use lib.ListN.{length, replicate, getD-replicate}
@@ -14,6 +14,7 @@ use Rattle.rules.specs.Answers.{isNumber, isAnswer, isReason}
 use Rattle.rules.specs.Block.{early, Answered, Delivered, reason, judged, packetPart}
 use Rattle.rules.specs.Block.{checkRight, reservedRight, decidedData}
 use Rattle.rules.specs.Pieces.{asking}
+use Rattle.rules.specs.Compare.{oneLength, comparingNumber}
 use Rattle.rules.specs.Demands.{D1}
 use Rattle.rules.specs.declared.Answer.{Answer}
 use Rattle.rules.specs.declared.Profile.{Profile}
@@ -49,6 +50,15 @@ delivered-number : {k lost : ℕ} {kept : ℕ → ℕ → ℕ} {before after : L
 delivered-number (Delivered.whole few w agree long is) = (tt, λ ne. absurd (ne refl))
 delivered-number (Delivered.tooMany many e) = (tt, λ ne. e)
 delivered-number (Delivered.noCodeword few j l none e) = (tt, λ ne. e)
+
+comparing-number : (fa sa fb sb : ℕ) → T (isNumber (comparingNumber fa sa fb sb))
+unfolding comparingNumber
+comparing-number fa sa fb sb = go (oneLength fa sa fb sb) (eqb (fa % 4096) 0)
+  where
+    go : (b c : Bool) → T (isNumber (pick (not b) 18 (pick (not c) 7 0)))
+    go true true = tt
+    go true false = tt
+    go false c = tt
 
 -- what the demand asks of an answer to receiving
 abbrev Told : List ℕ → List ℕ → Receipt → Type 0
@@ -88,6 +98,10 @@ d1 =
       feed = λ P f s before after a r. (rw (r .answer) (fault-told P _ (feeding-number P before (length f) (length s))), r .kept);
       ask = λ P marks state before after a.
           told P marks (asking P state (length before)) _ before after a (fault-told P _ (asking-number P state (length before)));
+      compare = λ from G before after a r. (
+        rw (r .number) (comparing-number (length (G .firsts-a)) (length (G .seconds-a)) (length (G .firsts-b)) (length (G .seconds-b))),
+        λ n. r .refused n .1,
+      );
       read = read-number;
       write = write-told;
     }

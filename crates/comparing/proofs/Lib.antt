@@ -2,3 +2,4 @@ pub mod Lengths
 pub mod Filling
 pub mod Passing
 pub mod Going
+pub mod SideBySide
