@@ -117,7 +117,7 @@ module _ (e : ℕ → List ℕ) (six : (i : ℕ) → length (e i) ≡ 6) where
           let at : j ≡ length (e c) + (j - 6) = omega (arith, six c) in
           let back : 6 + (j - 6) ≡ j = omega arith in
           let past' : (6 * length cs ≤ j - 6) ⊎ (length (drop 6 h) < 6 * ((j - 6) / 6) + 6) =
-              ⊎-elim (λ p. inl (omega (arith, p))) (λ p. inr (omega (arith, p, length-drop 6 h))) past in
+          ⊎-elim (λ p. inl (omega (arith, p))) (λ p. inr (omega (arith, p, length-drop 6 h))) past in
           ap₂ row (filled-fits (e c) (map e cs) h (omega arith)) at
           ∙ getD-append-add (e c) (filled (map e cs) (drop 6 h)) (j - 6) 0
           ∙ ih past'

@@ -45,8 +45,10 @@ each-passes (suc n) k f j lt = go (each-passes n (suc k) f) (f k) refl j lt
   where
     rest : List ℕ
     rest = passing n (suc k) f
+
     wider : (x : ℕ) → Passes n (suc k) f x → Passes (suc n) k f x
     wider x p = (omega (arith, p .0), omega (arith, p .1), p .2)
+
     go : ((i : ℕ) → i < length rest → Passes n (suc k) f (row rest i)) → (b : Bool) → f k ≡ b → (i : ℕ)
         → i < length (pick b (k ∷ rest) rest)
         → Passes (suc n) k f (row (pick b (k ∷ rest) rest) i)
@@ -60,6 +62,7 @@ passing-rises (suc n) k f i j l lt = go (passing-rises n (suc k) f) (f k) i j l 
   where
     rest : List ℕ
     rest = passing n (suc k) f
+
     go : ((i j : ℕ) → i < j → j < length rest → row rest i < row rest j) → (b : Bool) (i j : ℕ) → i < j
         → j < length (pick b (k ∷ rest) rest)
         → row (pick b (k ∷ rest) rest) i < row (pick b (k ∷ rest) rest) j
@@ -78,10 +81,13 @@ none-missing (suc n) k f x p = go (none-missing n (suc k) f x) (f k) refl (ℕ-d
   where
     rest : List ℕ
     rest = passing n (suc k) f
+
     later : ¬ (x ≡ k) → Passes n (suc k) f x
     later ne = (omega (arith, p .0), omega (arith, p .1), p .2)
+
     behind : Stands rest x → Stands (k ∷ rest) x
     behind s = (suc (s .0), omega (arith, s .1), s .2)
+
     go : (Passes n (suc k) f x → Stands rest x) → (b : Bool) → f k ≡ b → Dec (x ≡ k) → Stands (pick b (k ∷ rest) rest) x
     go ih true e (yes q) = (0, omega arith, sym q)
     go ih true e (no ne) = behind (ih (later ne))
@@ -119,6 +125,7 @@ passing-shift (suc n) k s f = go (f (s + k)) (ap (λ (a : ℕ). passing n a f) (
   where
     rest : List ℕ
     rest = passing n (suc k) (λ i. f (s + i))
+
     go : (b : Bool)
         → passing n (suc (s + k)) f ≡ map (λ i. s + i) rest
         → pick b ((s + k) ∷ passing n (suc (s + k)) f) (passing n (suc (s + k)) f) ≡ map (λ i. s + i) (pick b (k ∷ rest) rest)

@@ -60,13 +60,16 @@ module _ (G : Grids) where
     where
       long : (length (G .seconds-a) ≡ count) × (length (G .firsts-b) ≡ count) × (length (G .seconds-b) ≡ count)
       long = one-length count (length (G .seconds-a)) (length (G .firsts-b)) (length (G .seconds-b)) t
+
       at : length (differing G) ≡ 0 → (i : ℕ) → i < count → (row (G .firsts-a) i ≡ row (G .firsts-b) i) × (row (G .seconds-a) i ≡ row (G .seconds-b) i)
       at none i lt = alike i (λ d. let s = none-left-out i lt d in omega (arith, s .1, none))
+
       to : length (differing G) ≡ 0 → (G .firsts-a ≡ G .firsts-b) × (G .seconds-a ≡ G .seconds-b)
       to none = (
         ext-getD 0 (G .firsts-a) (G .firsts-b) (sym (long .1)) (λ i lt. at none i lt .0),
         ext-getD 0 (G .seconds-a) (G .seconds-b) (long .0 ∙ sym (long .2)) (λ i lt. at none i (omega (arith, long .0)) .1),
       )
+
       from : (G .firsts-a ≡ G .firsts-b) × (G .seconds-a ≡ G .seconds-b) → length (differing G) ≡ 0
       from e = go (decLt 0 (length (differing G)))
         where
@@ -105,6 +108,7 @@ module _ (from : ℕ) (G : Grids) (before after : List ℕ) (a : Comparison) (r 
           let e = one-length (length (G .firsts-a)) (length (G .seconds-a)) (length (G .firsts-b)) (length (G .seconds-b)) (t .0) in
           let whole : length (G .firsts-a) ≡ 4096 * (length (G .firsts-a) / 4096) = omega (arith, t .1) in
           (length (G .firsts-a) / 4096, (whole, e .0 ∙ whole, e .1 ∙ whole, e .2 ∙ whole))
+
       from' : ((n : ℕ) × Symbols G n) → a .number ≡ 0
       from' s = r .number ∙ symbols-number G (s .0) (s .1)
 
@@ -142,8 +146,10 @@ one-comparison from G before after after' a b x y = go (ℕ-discrete (a .number)
   where
     number : a .number ≡ b .number
     number = x .number ∙ sym (y .number)
+
     answer : a .count ≡ b .count → a ≡ b
     answer c = ap₂ (λ (n m : ℕ). record { number = n; count = m }) number c
+
     go : Dec (a .number ≡ 0) → (a ≡ b) × (after ≡ after')
     go (yes z) =
         let p = x .compared z in
@@ -285,19 +291,22 @@ symbol-by-symbol from n G before after a answers rooms lists s r each = (done, c
   where
     z : a .number ≡ 0
     z = r .number ∙ symbols-number G n s
+
     done : (y : ℕ) → y < n → answers y .number ≡ 0
     done y lt = each y lt .1 .number ∙ symbols-number (symbolAlone G y) 1 (alone-symbols G n s y lt)
+
     counted : a .count ≡ total n (λ y. answers y .count)
     counted =
         r .compared z .0 ∙ whole-count G n s
         ∙ total-same n (λ y. length (differing (symbolAlone G y))) (λ y. answers y .count) (λ y lt. sym (each y lt .1 .compared (done y lt) .0))
+
     listed' : 6 * a .count ≤ length before → take (6 * a .count) after ≡ inTurn n (λ y. take (6 * answers y .count) (lists y))
     listed' fits =
         all-listed from G before after a r z (subst (λ (c : ℕ). 6 * c ≤ length before) (r .compared z .0) fits)
         ∙ whole-flat G n s from
         ∙ in-turn-same n (λ y. flat (difference (from + y) (symbolAlone G y)) (differing (symbolAlone G y))) (λ y. take (6 * answers y .count) (lists y))
         (λ y lt. sym (all-listed (from + y) (symbolAlone G y) (rooms y) (lists y) (answers y) (each y lt .1) (done y lt)
-          (omega (arith, alone-few G n s y lt, each y lt .0))))
+        (omega (arith, alone-few G n s y lt, each y lt .0))))
 
 pub side-by-side : SideBySide
 side-by-side =

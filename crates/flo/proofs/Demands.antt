@@ -10,11 +10,14 @@ use Rattle.rules.specs.Bits.{pick, row}
 use Rattle.rules.specs.Answers.{isNumber, isAnswer, isReason}
 use Rattle.rules.specs.Outer.{isK}
 use Rattle.rules.specs.Profile.{reading}
+use Rattle.rules.specs.Compare.{grids}
 use Rattle.rules.specs.declared.Answer.{Answer}
+use Rattle.rules.specs.declared.Comparison.{Comparison}
 use Rattle.rules.specs.declared.Profile.{Profile}
 use Rattle.rules.specs.declared.Writing.{Writing}
 use Rattle.rules.specs.declared.Receipt.{Receipt}
 use Rattle.outer.proofs.Answers.{one-parity}
+use Rattle.comparing.proofs.SideBySide.{side-by-side}
 use Rattle.card.proofs.D1.{d1}
 use Rattle.card.proofs.D2.{d2}
 use Rattle.flo.specs.Calls.{AfterReading, refusal, receiptOf, Unread}
@@ -90,6 +93,8 @@ calls-told =
       write-profile = λ masks level mode k seeds profile count a r.
           subst (λ (w : Writing). T (isAnswer (w .number) (w .place))) (r .answer) (d1 .write _ .0);
       parity = λ k before after n r. (rw (r .answer) (parity-number (not (isK k)) (not (eqb (length before) 1952))), r .kept);
+      compare = λ fa sa fb sb before after count n r.
+          (d1 .compare 0 (grids fa sa fb sb) before after _ r .0, λ ne. let q = r .refused ne in (q .1, q .0));
     }
 
 pub calls-one : CallsOne
@@ -121,4 +126,7 @@ calls-one =
           let e = sym (x .answer) ∙ y .answer in
           (ap (λ (w : Writing). record { number = w .number; place = w .place }) e, ap (λ (w : Writing). w .bytes) e, ap (λ (w : Writing). w .count) e);
       parity = λ k before after after' n m. one-parity k;
+      compare = λ fa sa fb sb before after after' count count' n m x y.
+          let e = side-by-side .one-comparison 0 (grids fa sa fb sb) before after after' _ _ x y in
+          (ap (λ (c : Comparison). c .number) (e .0), ap (λ (c : Comparison). c .count) (e .0), e .1);
     }

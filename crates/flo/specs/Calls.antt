@@ -8,6 +8,7 @@ use Rattle.rules.specs.Profile.{reading, writing}
 use Rattle.rules.specs.Outer.{ParityMade}
 use Rattle.rules.specs.Block.{SendRule, SendSymbolRule, ReceiveRule}
 use Rattle.rules.specs.Pieces.{FeedRule, AskRule}
+use Rattle.rules.specs.Compare.{grids, CompareRule}
 use Rattle.rules.specs.declared.Answer.{Answer}
 use Rattle.rules.specs.declared.Profile.{Profile}
 use Rattle.rules.specs.declared.Receipt.{Receipt}
@@ -58,3 +59,7 @@ pub record FloWriteProfile (masks : List ℕ) (level : Float) (mode k : ℕ) (se
 
 abbrev pub FloParity : ℕ → List ℕ → List ℕ → ℕ → Type 0
 FloParity = ParityMade
+
+-- without a profile: the rule itself, from symbol 0 on, with the answer from what comes back
+abbrev pub FloCompare : List ℕ → List ℕ → List ℕ → List ℕ → List ℕ → List ℕ → ℕ → ℕ → Type 0
+FloCompare fa sa fb sb before after count n = CompareRule 0 (grids fa sa fb sb) before after (record { number = n; count = count })

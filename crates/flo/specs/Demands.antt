@@ -1,5 +1,6 @@
 -- The founder's three sentences for the C calls, over the profile's bytes. Lent memory is the cell lists of a send, the data room of a receive or a
--- question, the state of flo_feed and the block of flo_parity; what comes back through result pointers is an answer. flo/proofs/Demands.antt and Right.antt prove these.
+-- question, the state of flo_feed, the block of flo_parity and the list of flo_compare; what comes back through result pointers is an answer.
+-- flo/proofs/Demands.antt and Right.antt prove these. What is promised of two grids (SideBySide) is said of flo_compare's rule as it stands.
 use mathlib.Core.Path.{_≡_}
 use mathlib.Core.List.{List, _++_}
 use mathlib.Core.Logic.{_↔_}
@@ -17,7 +18,7 @@ use Rattle.rules.specs.Pieces.{Fed, LeftBy}
 use Rattle.rules.specs.Demands.{SomePacket, Fair, BringsBack}
 use Rattle.rules.specs.declared.Answer.{Answer}
 use Rattle.rules.specs.declared.Profile.{Profile}
-use Rattle.flo.specs.Calls.{refusal, FloSend, FloSendSymbol, FloReceive, FloFeed, FloAsk, FloReadProfile, FloWriteProfile, FloParity}
+use Rattle.flo.specs.Calls.{refusal, FloSend, FloSendSymbol, FloReceive, FloFeed, FloAsk, FloReadProfile, FloWriteProfile, FloParity, FloCompare}
 
 -- ---- 1. The number is in the table, and a refusal leaves the lent memory holding what it held
 
@@ -44,6 +45,9 @@ pub record CallsTold : Type 0 where
       → FloWriteProfile masks level mode k seeds profile count a
       → T (isAnswer (a .number) (a .place))
   pub parity : (k : ℕ) (before after : List ℕ) (n : ℕ) → FloParity k before after n → T (isNumber n) × (¬ (n ≡ 0) → after ≡ before)
+  pub compare : (fa sa fb sb before after : List ℕ) (count n : ℕ)
+      → FloCompare fa sa fb sb before after count n
+      → T (isNumber n) × (¬ (n ≡ 0) → (after ≡ before) × (count ≡ 0))
 
 -- ---- 2. No call can answer in two ways
 
@@ -80,6 +84,10 @@ pub record CallsOne : Type 0 where
       → FloParity k before after n
       → FloParity k before after' m
       → (n ≡ m) × (after ≡ after')
+  pub compare : (fa sa fb sb before after after' : List ℕ) (count count' n m : ℕ)
+      → FloCompare fa sa fb sb before after count n
+      → FloCompare fa sa fb sb before after' count' m
+      → (n ≡ m) × (count ≡ count') × (after ≡ after')
 
 -- the profile that some bytes say
 abbrev pub said : List ℕ → Profile

@@ -1,6 +1,6 @@
 // The C interface, thin: include/flo.h says each call's rule in words.
 ghost use mathlib.Core.Path.{_≡_};
-ghost use Rattle.flo.specs.Calls.{FloSend, FloSendSymbol, FloReceive, FloFeed, FloAsk, FloReadProfile, FloWriteProfile, FloParity};
+ghost use Rattle.flo.specs.Calls.{FloSend, FloSendSymbol, FloReceive, FloFeed, FloAsk, FloReadProfile, FloWriteProfile, FloParity, FloCompare};
 use rules::Answer;
 use rules::Profile;
 use rules::Reading;
@@ -198,4 +198,20 @@ pub extern "C" fn flo_parity(k: u8, block: &mut [u8]) -> u32
     ensures { λ r. ⌜ FloParity k (now (block .entry)) (now (block .exit)) r ⌝ }
 {
     outer::number(outer::fill_parity(k, block))
+}
+
+#[no_mangle]
+pub extern "C" fn flo_compare(
+    firsts_a: &[u32],
+    seconds_a: &[u32],
+    firsts_b: &[u32],
+    seconds_b: &[u32],
+    differences: &mut [u32],
+    count: &mut u64,
+) -> u32
+    ensures { λ r. ⌜ FloCompare (now («firsts_a» .entry)) (now («seconds_a» .entry)) (now («firsts_b» .entry)) (now («seconds_b» .entry)) (now (differences .entry)) (now (differences .exit)) (now (count .exit)) r ⌝ }
+{
+    let a = comparing::compare(firsts_a, seconds_a, firsts_b, seconds_b, differences);
+    *count = a.count;
+    a.number
 }
