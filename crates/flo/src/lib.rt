@@ -211,7 +211,7 @@ pub extern "C" fn flo_compare(
 ) -> u32
     ensures { λ r. ⌜ FloCompare (now («firsts_a» .entry)) (now («seconds_a» .entry)) (now («firsts_b» .entry)) (now («seconds_b» .entry)) (now (differences .entry)) (now (differences .exit)) (now (count .exit)) r ⌝ }
 {
-    let a = comparing::compare(firsts_a, seconds_a, firsts_b, seconds_b, differences);
-    *count = a.count;
-    a.number
+    let answer = comparing::compare(firsts_a, seconds_a, firsts_b, seconds_b, differences);
+    *count = answer.count;
+    answer.number
 }
