@@ -112,3 +112,12 @@ u32 flo_parity(u8 k, u8 *block, u64 n) {
     const struct list lists[] = { { block, n, 1 } };
     return carry(PARITY, (u64[]){ k, 0, 0 }, lists, 1);
 }
+
+u32 flo_compare(const u32 *firsts_a, u64 fa, const u32 *seconds_a, u64 sa, const u32 *firsts_b, u64 fb, const u32 *seconds_b, u64 sb,
+                u32 *differences, u64 d, u64 *count) {
+    const struct list lists[] = {
+        { firsts_a, 4 * fa, 0 }, { seconds_a, 4 * sa, 0 }, { firsts_b, 4 * fb, 0 }, { seconds_b, 4 * sb, 0 }, { differences, 4 * d, 1 },
+        { count, 8, 1 },
+    };
+    return carry(COMPARE, (u64[]){ 0, 0, 0 }, lists, 6);
+}

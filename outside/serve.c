@@ -9,8 +9,10 @@ u32 flo_ask(const u8 *, u64, u16, const u8 *, u64, u8 *, u64, u16 *, u8 *, u64 *
 u32 flo_read_profile(const u8 *, u64, u32 *, float *, u8 *, u8 *, u32 *, u64 *);
 u32 flo_write_profile(const u32 *, float, u8, u8, const u32 *, u8 *, u64 *, u64 *);
 u32 flo_parity(u8, u8 *, u64);
+u32 flo_compare(const u32 *, u64, const u32 *, u64, const u32 *, u64, const u32 *, u64, u32 *, u64, u64 *);
 
-enum { ROOM = 1 << 21, GUARD = 128, PATTERN = 0x5C };
+/* Room for the lists of check_compare.rs's largest grids, 257 symbols. What no call has used takes no memory. */
+enum { ROOM = 1 << 25, GUARD = 128, PATTERN = 0x5C };
 
 /* All lists of a call, each at a multiple of 64 bytes and with a guard before and behind it. */
 static _Alignas(64) u8 room[ROOM];
@@ -63,7 +65,7 @@ static float float_of(u64 bits) {
 static u32 run(const struct request *request) {
     const u64 *n = request->bytes, *a = request->numbers;
     u8 **l = lists;
-    u64 *place = (u64 *)l[request->count - 1]; /* the last list of every call that has one */
+    u64 *place = (u64 *)l[request->count - 1]; /* the last list of every call that has one; of COMPARE it is the count */
     switch (request->call) {
     case SEND:
         return flo_send(l[0], n[0], l[1], n[1], (float *)l[2], n[2] / 4, (float *)l[3], n[3] / 4, place);
@@ -79,6 +81,8 @@ static u32 run(const struct request *request) {
         return flo_read_profile(l[0], n[0], (u32 *)l[1], (float *)l[2], l[3], l[4], (u32 *)l[5], place);
     case WRITE_PROFILE:
         return flo_write_profile((u32 *)l[0], float_of(a[0]), (u8)a[1], (u8)a[2], (u32 *)l[1], l[2], (u64 *)l[3], place);
+    case COMPARE:
+        return flo_compare((u32 *)l[0], n[0] / 4, (u32 *)l[1], n[1] / 4, (u32 *)l[2], n[2] / 4, (u32 *)l[3], n[3] / 4, (u32 *)l[4], n[4] / 4, place);
     default:
         return flo_parity((u8)a[0], l[0], n[0]);
     }
