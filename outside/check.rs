@@ -1,6 +1,7 @@
 //! The tests from outside: the C library against an independent plain Rust program, on random inputs that are the same in every run.
 //! `run-check` compiles and runs it. An argument is another seed for the random numbers.
 
+mod check_compare;
 mod check_examples;
 mod check_pieces;
 mod check_places;
@@ -24,6 +25,7 @@ fn main() {
     check_send::run(&mut random, &mut tally);
     check_receive::run(&mut random, &mut tally);
     check_pieces::run(&mut random, &mut tally);
+    check_compare::run(&mut random, &mut tally);
     if !tally.report() {
         std::process::exit(1);
     }

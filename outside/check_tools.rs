@@ -48,7 +48,7 @@ impl Random {
     }
 }
 
-/// Bytes and cells, compared by their bits: NaN equals itself, and the two zeros differ.
+/// Bytes, cells and their bit patterns, compared by their bits: NaN equals itself, and the two zeros differ.
 pub trait Bits: Copy {
     fn bits(self) -> u32;
     fn pattern(bits: u32) -> Self;
@@ -60,6 +60,15 @@ impl Bits for u8 {
     }
     fn pattern(bits: u32) -> u8 {
         (bits >> 24) as u8
+    }
+}
+
+impl Bits for u32 {
+    fn bits(self) -> u32 {
+        self
+    }
+    fn pattern(bits: u32) -> u32 {
+        bits
     }
 }
 
@@ -112,10 +121,11 @@ pub enum Call {
     ReadProfile,
     WriteProfile,
     Parity,
+    Compare,
 }
 
 /// All numbers, as columns of the tally.
-const NUMBERS: [u32; 18] = [0, 1, 2, 3, 5, 6, 7, 8, 9, 10, 16, 17, 22, 40, 41, 42, 43, 44];
+const NUMBERS: [u32; 19] = [0, 1, 2, 3, 5, 6, 7, 8, 9, 10, 16, 17, 18, 22, 40, 41, 42, 43, 44];
 
 /// The numbers of a profile that is read, and of one passed as a value.
 const OF_BYTES: &[u32] = &[1, 2, 3, 5, 40, 41, 42, 43, 44];
@@ -128,7 +138,7 @@ const PLACES: [(u32, usize); 11] = [
 ];
 
 /// Each call's name and the numbers that can arise in it: the profile's, and its own.
-const CALLS: [(&str, &[u32], &[u32]); 8] = [
+const CALLS: [(&str, &[u32], &[u32]); 9] = [
     ("send", OF_BYTES, &[0, 6, 7]),
     ("send_symbol", OF_BYTES, &[0, 6, 7, 8]),
     ("receive", OF_BYTES, &[0, 6, 7, 9, 10]),
@@ -137,15 +147,30 @@ const CALLS: [(&str, &[u32], &[u32]); 8] = [
     ("read_profile", OF_BYTES, &[0]),
     ("write_profile", OF_VALUE, &[0]),
     ("parity", &[], &[0, 6, 43]),
+    ("compare", &[], &[0, 7, 18]),
 ];
 const REASONS: [usize; 6] = [0, 11, 12, 13, 14, 15];
 const SHOWN: usize = 10;
+
+/// The kinds of comparing, as a line of the tally. The lists are those that are lent where cells differ.
+#[derive(Clone, Copy)]
+pub enum Kind {
+    NoneDiffer,
+    AllDiffer,
+    NoList,
+    ShortList,
+    TornList,
+    ExactList,
+    LongerList,
+}
+const KINDS: [&str; 7] = ["none differ", "all differ", "no list", "short list", "list torn at its end", "exact list", "longer list"];
 
 #[derive(Default)]
 pub struct Tally {
     /// How often each number came from each call at each place.
     came: BTreeMap<(usize, u32, usize), u64>,
     reasons: [u64; 16],
+    kinds: [u64; KINDS.len()],
     cases: u64,
     differences: u64,
 }
@@ -172,6 +197,10 @@ impl Tally {
 
     pub fn reasons(&mut self, reasons: &[u8]) {
         reasons.iter().for_each(|&reason| self.reasons[reason as usize] += 1);
+    }
+
+    pub fn kind(&mut self, kind: Kind) {
+        self.kinds[kind as usize] += 1;
     }
 
     pub fn difference(&mut self, text: &str) {
@@ -205,6 +234,8 @@ impl Tally {
         }
         let reasons = REASONS.map(|reason| format!(" {reason}: {}", self.reasons[reason]));
         println!("reasons      {}", reasons.join(","));
+        let kinds: Vec<String> = KINDS.iter().zip(self.kinds).map(|(kind, count)| format!(" {kind}: {count}")).collect();
+        println!("compare      {}", kinds.join(","));
         for (c, (name, of_profile, own)) in CALLS.iter().enumerate() {
             for &n in of_profile.iter().chain(*own).filter(|&&n| self.count(c, n) == 0).collect::<Vec<_>>() {
                 self.difference(&format!("number {n} never came from {name}"));
@@ -216,6 +247,9 @@ impl Tally {
         }
         for reason in REASONS.into_iter().filter(|&reason| self.reasons[reason] == 0).collect::<Vec<_>>() {
             self.difference(&format!("reason {reason} never came"));
+        }
+        for kind in (0..KINDS.len()).filter(|&kind| self.kinds[kind] == 0).collect::<Vec<_>>() {
+            self.difference(&format!("compare: {} never came", KINDS[kind]));
         }
         self.strangers().iter().for_each(|text| self.difference(text));
         println!("outside: {} cases, {} differences", self.cases, self.differences);

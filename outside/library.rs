@@ -35,6 +35,11 @@ extern "C" {
         masks: *const u32, level: f32, mode: u8, k: u8, seeds: *const u32, profile: *mut u8, count: *mut usize, place: *mut usize,
     ) -> u32;
     fn flo_parity(k: u8, block: *mut u8, block_length: usize) -> u32;
+    fn flo_compare(
+        firsts_a: *const u32, firsts_a_length: usize, seconds_a: *const u32, seconds_a_length: usize,
+        firsts_b: *const u32, firsts_b_length: usize, seconds_b: *const u32, seconds_b_length: usize,
+        differences: *mut u32, differences_length: usize, count: *mut u64,
+    ) -> u32;
 }
 
 /// What a result holds before a call.
@@ -150,4 +155,19 @@ pub fn write_profile(value: &Profile) -> (Answer, [u8; PROFILE], usize) {
 pub fn parity(k: u8, block: &mut [u8]) -> u32 {
     // SAFETY: the pointer comes with the length of its slice.
     unsafe { flo_parity(k, block.as_mut_ptr(), block.len()) }
+}
+
+/// The number and the count. The list's guards are the caller's, as those of all lent memory are.
+pub fn compare(firsts_a: &[u32], seconds_a: &[u32], firsts_b: &[u32], seconds_b: &[u32], differences: &mut [u32]) -> (u32, u64) {
+    let mut count = [PATTERN_8 as u64; 1 + GUARD];
+    // SAFETY: every pointer comes with the length of its own slice; the count is live.
+    let number = unsafe {
+        flo_compare(
+            firsts_a.as_ptr(), firsts_a.len(), seconds_a.as_ptr(), seconds_a.len(),
+            firsts_b.as_ptr(), firsts_b.len(), seconds_b.as_ptr(), seconds_b.len(),
+            differences.as_mut_ptr(), differences.len(), count.as_mut_ptr(),
+        )
+    };
+    guard(&count[1..], PATTERN_8 as u64, "count");
+    (number, count[0])
 }

@@ -1,17 +1,20 @@
-//! An independent sender and receiver, written from the text of document 01 and of document 02's Req 01, 02 and 04 alone (a state's bytes are
-//! flo.h's) and in the ordinary way: log tables, precomputed addresses and places, one bit per byte. The outside tests compare the C library
+//! An independent sender and receiver, written from the text of document 01 and of document 02's Req 01, 02, 04 and 05 alone (a state's bytes
+//! and what a list of differences holds are flo.h's) and in the ordinary way: log tables, precomputed addresses and places, one bit per byte. The outside tests compare the C library
 //! with it, and the benchmark times the two side by side.
 //!
 //! Names are the documents'. `r` is 16 - K, `n` the slots of one packet, `p` a packet, `t` a block slot, `j` a column.
 
 #[path = "plain_codes.rs"]
 mod codes;
+#[path = "plain_compare.rs"]
+mod compare;
 #[path = "plain_pieces.rs"]
 mod pieces;
 #[path = "plain_profile.rs"]
 mod profile;
 
 pub use codes::*;
+pub use compare::*;
 pub use pieces::*;
 pub use profile::*;
 use std::ops::Range;
@@ -37,6 +40,7 @@ pub const TOO_MANY_LOST: u32 = 9;
 pub const NO_CODEWORD: u32 = 10;
 pub const TOO_MANY_CELLS: u32 = 16;
 pub const CELLS_MISSING: u32 = 17;
+pub const LENGTHS_DIFFER: u32 = 18;
 pub const NO_SUCH_STATE: u32 = 22;
 pub const BAD_MASK: u32 = 40;
 pub const BAD_LEVEL: u32 = 41;
