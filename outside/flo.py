@@ -1,4 +1,4 @@
-"""An independent sender and receiver, written from the text of document 01 and of document 02's Req 01, 02 and 04 alone (a state's bytes are
+"""An independent sender and receiver, written from the text of document 01 and of document 02's Req 01, 02, 04 and 05 alone (a state's bytes are
 flo.h's) and in another way than the crates: whole lists, integers as polynomials, no tables shared with them. The vectors under outside/ and
 crates/*/stdout that say so come from here.
 
@@ -167,6 +167,23 @@ def write_profile(profile):
                                  b"".join(struct.pack(">I", s) for s in seeds)], 1):
         out += bytes([tag]) + struct.pack(">H", len(value)) + value
     return out
+
+# ---- two grids side by side, Req 05
+
+def patterns(file):
+    """The bit patterns (first, second) of each cell of a file of cells as send writes it."""
+    symbols = [struct.unpack_from(">8192I", file, at) for at in range(0, len(file), 32768)]
+    return [cell for symbol in symbols for cell in zip(symbol[:4096], symbol[4096:])]
+
+def compare(a, b):
+    """Of two such files: the number, and the lines that the program compare prints at 0."""
+    if len(a) != len(b):
+        return 18, []
+    if len(a) % 32768:
+        return 7, []
+    cells = enumerate(zip(patterns(a), patterns(b)))
+    lines = [f"{i // 4096} {i % 4096} " + " ".join(f"{bits:08x}" for bits in one + other) for i, (one, other) in cells if one != other]
+    return 0, lines + [str(len(lines))]
 
 # ---- restoring: each packet is a sum of data packets; the kept ones are solved for these by elimination, all columns at once
 
