@@ -489,6 +489,138 @@ static void test_faults(int mode, int k) {
     }
 }
 
+/* ---- two grids side by side */
+
+static struct pair {
+    uint32_t firsts_a[CELLS], seconds_a[CELLS], firsts_b[CELLS], seconds_b[CELLS];
+    size_t cells;
+    uint32_t differences[CELLS * FLO_DIFFERENCE + FLO_DIFFERENCE]; /* painted before each call, as the count is */
+    uint64_t count;
+} two;
+
+enum { DIFFERENCES = sizeof two.differences / sizeof two.differences[0] };
+
+/* Twice the same grid. */
+static void begin_pair(size_t symbols) {
+    uint32_t i;
+    two.cells = symbols * FLO_SYMBOL_CELLS;
+    for (i = 0; i < CELLS; i++) {
+        two.firsts_a[i] = two.firsts_b[i] = i * 2654435761u;
+        two.seconds_a[i] = two.seconds_b[i] = ~i * 40503u;
+    }
+}
+
+/* Compares lists of any lengths, the empty ones without an address. */
+static uint32_t compare_lengths(size_t one, size_t second, size_t third, size_t fourth, size_t length) {
+    memset(two.differences, PAINT, sizeof two.differences);
+    memset(&two.count, PAINT, sizeof two.count);
+    return flo_compare(one ? two.firsts_a : NULL, one, second ? two.seconds_a : NULL, second, third ? two.firsts_b : NULL, third,
+                       fourth ? two.seconds_b : NULL, fourth, length ? two.differences : NULL, length, &two.count);
+}
+
+static uint32_t compare(size_t length) {
+    return compare_lengths(two.cells, two.cells, two.cells, two.cells, length);
+}
+
+/* The list's difference of this number is that cell, with what both grids have in it. */
+static int is_listed(size_t number, uint32_t symbol, uint32_t cell) {
+    const size_t i = (size_t)symbol * FLO_SYMBOL_CELLS + cell;
+    const uint32_t six[FLO_DIFFERENCE] = {symbol, cell, two.firsts_a[i], two.seconds_a[i], two.firsts_b[i], two.seconds_b[i]};
+    return memcmp(two.differences + number * FLO_DIFFERENCE, six, sizeof six) == 0;
+}
+
+/* Behind so many differences the list is as it was: the next number is painted, and each is as the one before it. */
+static int is_kept_behind(size_t number) {
+    const uint32_t *rest = two.differences + number * FLO_DIFFERENCE;
+    const size_t length = DIFFERENCES - number * FLO_DIFFERENCE;
+    return is_painted(rest, sizeof *rest) && memcmp(rest, rest + 1, (length - 1) * sizeof *rest) == 0;
+}
+
+/* Both zeros, a subnormal, both ones, both infinities, and NaNs: quiet, of another payload, signalling, of the other sign. */
+static const uint32_t patterns[] = {0,          0x80000000, 1,          0x3F800000, 0xBF800000, 0x7F800000,
+                                    0xFF800000, 0x7FC00000, 0x7FC00001, 0x7F800001, 0xFFC00000, 0xFFFFFFFF};
+enum { PATTERNS = sizeof patterns / sizeof patterns[0] };
+
+static void test_patterns(void) {
+    static const uint32_t cells[] = {0, FLO_SYMBOL_CELLS - 1, FLO_SYMBOL_CELLS, 2 * FLO_SYMBOL_CELLS - 1};
+    unsigned i;
+    begin_pair(2);
+    for (i = 0; i < 8 * PATTERNS * PATTERNS; i++) {
+        const uint32_t cell = cells[i % 4], a = patterns[i / 8 % PATTERNS], b = patterns[i / 8 / PATTERNS];
+        const size_t due = a != b;
+        uint32_t *const of_a = i / 4 % 2 == 0 ? two.firsts_a : two.seconds_a, *const of_b = i / 4 % 2 == 0 ? two.firsts_b : two.seconds_b;
+        of_a[cell] = a;
+        of_b[cell] = b;
+        test("a pattern against another", compare(DIFFERENCES) == FLO_DONE && two.count == due && is_kept_behind(due) &&
+                                              (due == 0 || is_listed(0, cell / FLO_SYMBOL_CELLS, cell % FLO_SYMBOL_CELLS)));
+        of_b[cell] = a;
+    }
+}
+
+static void test_compare(void) {
+    static const uint32_t six[FLO_DIFFERENCE] = {1, 0, 0x3F800000, 0, 0x3F800000, 0x80000000};
+    size_t length;
+    begin_pair(2);
+    test("the same grids", compare(DIFFERENCES) == FLO_DONE && two.count == 0 && is_kept_behind(0));
+    two.firsts_a[FLO_SYMBOL_CELLS] = two.firsts_b[FLO_SYMBOL_CELLS] = 0x3F800000;
+    two.seconds_a[FLO_SYMBOL_CELLS] = 0;
+    two.seconds_b[FLO_SYMBOL_CELLS] = 0x80000000;
+    test("+0.0 and -0.0", compare(DIFFERENCES) == FLO_DONE && two.count == 1 && is_kept_behind(1) && memcmp(two.differences, six, sizeof six) == 0);
+    two.firsts_b[FLO_SYMBOL_CELLS - 1] ^= 1;
+    two.firsts_b[2 * FLO_SYMBOL_CELLS - 1] = two.seconds_a[2 * FLO_SYMBOL_CELLS - 1];
+    two.seconds_b[2 * FLO_SYMBOL_CELLS - 1] = two.firsts_a[2 * FLO_SYMBOL_CELLS - 1];
+    for (length = 0; length <= 3 * FLO_DIFFERENCE + 7; length++) {
+        const size_t listed = length / FLO_DIFFERENCE < 3 ? length / FLO_DIFFERENCE : 3;
+        test("all are counted", compare(length) == FLO_DONE && two.count == 3);
+        test("those that fit are listed", (listed < 1 || is_listed(0, 0, FLO_SYMBOL_CELLS - 1)) && (listed < 2 || is_listed(1, 1, 0)) &&
+                                              (listed < 3 || is_listed(2, 1, FLO_SYMBOL_CELLS - 1)) && is_kept_behind(listed));
+    }
+}
+
+static void test_all_differ(void) {
+    uint32_t i;
+    int listed = 1;
+    begin_pair(FLO_MOST_SYMBOLS);
+    for (i = 0; i < CELLS; i++) *(i % 2 == 0 ? &two.firsts_b[i] : &two.seconds_b[i]) ^= 1u << i % 32;
+    test("all cells differ", compare(CELLS * FLO_DIFFERENCE) == FLO_DONE && two.count == CELLS && is_kept_behind(CELLS));
+    for (i = 0; i < CELLS; i++) listed = listed && is_listed(i, i / FLO_SYMBOL_CELLS, i % FLO_SYMBOL_CELLS);
+    test("all are listed", listed);
+    test("all but one are listed", compare(CELLS * FLO_DIFFERENCE - 1) == FLO_DONE && two.count == CELLS && is_kept_behind(CELLS - 1));
+    test("none is listed", compare(0) == FLO_DONE && two.count == CELLS && is_kept_behind(0));
+    test("the same lists as A and B", flo_compare(two.firsts_a, CELLS, two.seconds_b, CELLS, two.firsts_a, CELLS, two.seconds_b, CELLS,
+                                                  two.differences, DIFFERENCES, &two.count) == FLO_DONE && two.count == 0 && is_kept_behind(0));
+    test("the same list four times", flo_compare(two.firsts_a, CELLS, two.firsts_a, CELLS, two.firsts_a, CELLS, two.firsts_a, CELLS, NULL, 0,
+                                                 &two.count) == FLO_DONE && two.count == 0);
+}
+
+/* Lists of these lengths get this number, the count is zero and the list is as it was. All cells differ, so that a count would be seen. */
+static int is_turned_down(uint32_t number, size_t one, size_t second, size_t third, size_t fourth) {
+    return compare_lengths(one, second, third, fourth, DIFFERENCES) == number && two.count == 0 && is_kept_behind(0) &&
+           compare_lengths(one, second, third, fourth, 0) == number && two.count == 0;
+}
+
+static void test_lengths(void) {
+    static const size_t lengths[] = {0, 1, FLO_SYMBOL_CELLS - 1, FLO_SYMBOL_CELLS, FLO_SYMBOL_CELLS + 1, 2 * FLO_SYMBOL_CELLS, CELLS};
+    unsigned i, j;
+    begin_pair(FLO_MOST_SYMBOLS);
+    for (i = 0; i < CELLS; i++) two.firsts_b[i] ^= 1;
+    for (i = 0; i < 7; i++) {
+        const size_t n = lengths[i];
+        const uint32_t number = n % FLO_SYMBOL_CELLS == 0 ? FLO_DONE : FLO_CELLS_LENGTH;
+        test("whole symbols or not", compare_lengths(n, n, n, n, 0) == number && two.count == (number == FLO_DONE ? n : 0));
+        test("not whole symbols", number == FLO_DONE || is_turned_down(number, n, n, n, n));
+        for (j = 0; j < 7; j++) {
+            const size_t m = lengths[j];
+            if (i == j) continue;
+            test("one list of another length", is_turned_down(FLO_LENGTHS_DIFFER, m, n, n, n) && is_turned_down(FLO_LENGTHS_DIFFER, n, m, n, n) &&
+                                                   is_turned_down(FLO_LENGTHS_DIFFER, n, n, m, n) && is_turned_down(FLO_LENGTHS_DIFFER, n, n, n, m));
+            test("two of one and two of another", is_turned_down(FLO_LENGTHS_DIFFER, n, n, m, m) && is_turned_down(FLO_LENGTHS_DIFFER, n, m, n, m) &&
+                                                      is_turned_down(FLO_LENGTHS_DIFFER, n, m, m, n));
+        }
+    }
+    test("empty grids", compare_lengths(0, 0, 0, 0, DIFFERENCES) == FLO_DONE && two.count == 0 && is_kept_behind(0));
+}
+
 /* ---- several threads at once: each has a block of its own, sends and receives it again and again, and must find what it found alone */
 
 struct worker {
@@ -587,6 +719,13 @@ static void *call_parity(void *number) {
     return number;
 }
 
+static void *call_compare(void *number) {
+    begin_pair(FLO_MOST_SYMBOLS);
+    two.firsts_b[CELLS - 1] ^= 1;
+    *(uint32_t *)number = compare(DIFFERENCES);
+    return number;
+}
+
 /* How many bytes of such a stack a thread wrote to; 0 where it couldn't be made or the call was refused. Below the stack nothing may be touched. */
 static size_t stack_of(void *(*call)(void *)) {
     const size_t below = 65536;
@@ -619,6 +758,7 @@ static void test_stack(void) {
         {"flo_read_profile", call_read_profile},
         {"flo_write_profile", call_write_profile},
         {"flo_parity", call_parity},
+        {"flo_compare", call_compare},
     };
     static const uint8_t ks[] = {8, 12, 14};
     const size_t thread = stack_of(nothing);
@@ -644,7 +784,7 @@ int main(void) {
     static const int ks[] = {8, 12, 14};
     int i;
     test("the sizes agree", FLO_BLOCK_BYTES == FLO_PACKETS * FLO_PACKET_BYTES && FLO_MOST_DATA == 14 * FLO_PACKET_BYTES &&
-                                FLO_MOST_SYMBOLS == FLO_SYMBOLS(0) && FLO_STATE == 2 + CELLS);
+                                FLO_MOST_SYMBOLS == FLO_SYMBOLS(0) && FLO_STATE == 2 + CELLS && FLO_DIFFERENCE == 6);
     for (i = 0; i < 6; i++) {
         test_round_trip(i % 2, ks[i / 2]);
         test_damage(i % 2, ks[i / 2]);
@@ -654,6 +794,10 @@ int main(void) {
         test_state(i % 2, ks[i / 2]);
         test_spoilt(i % 2, ks[i / 2]);
     }
+    test_compare();
+    test_patterns();
+    test_all_differ();
+    test_lengths();
     test_threads();
     test_stack();
     printf("%d passed, %d failed\n", passed, failed);
