@@ -8,7 +8,7 @@ pub const DIFFERENCE: usize = 6;
 /// The number, and how many cells differ. The list takes the first differences that fit whole; on a refusal it keeps what it held.
 pub fn compare(firsts_a: &[u32], seconds_a: &[u32], firsts_b: &[u32], seconds_b: &[u32], differences: &mut [u32]) -> (u32, u64) {
     let length = firsts_a.len();
-    if [seconds_a.len(), firsts_b.len(), seconds_b.len()] != [length; 3] {
+    if seconds_a.len() != length || firsts_b.len() != length || seconds_b.len() != length {
         return (LENGTHS_DIFFER, 0);
     }
     if length % CELLS != 0 {
