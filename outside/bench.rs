@@ -1,13 +1,13 @@
 //! The benchmark: time per block of the C library and of the plain Rust program, side by side in one run; then the outer parity of ten
-//! thousand blocks by both; then the library's time for a grid that is fed in pieces, beside its own time for the whole grid. `run-bench`
-//! compiles and runs it.
+//! thousand blocks by both; then the library's time for a grid that is fed in pieces, beside its own time for the whole grid; then both
+//! programs' for comparing two grids. `run-bench` compiles and runs it.
 
 #[allow(dead_code)]
 mod library;
 #[allow(dead_code)]
 mod plain;
 
-use plain::{Profile, BLOCK, CELLS, PACKET, STATE};
+use plain::{Profile, BLOCK, CELLS, DIFFERENCE, PACKET, STATE};
 use std::hint::black_box;
 use std::time::{Duration, Instant};
 
@@ -77,21 +77,21 @@ fn marks(r: usize) -> u16 {
 }
 
 /// How often a call fits into a sample.
-fn repeats(bench: &mut Bench, call: fn(&mut Bench) -> u32) -> u32 {
+fn repeats<T>(bench: &mut T, call: fn(&mut T) -> u32) -> u32 {
     let start = Instant::now();
     let mut count = 0;
     while count == 0 || start.elapsed() < SAMPLE {
-        assert_eq!(call(black_box(bench)), 0, "the call must be done");
+        assert_eq!(call(black_box(&mut *bench)), 0, "the call must be done");
         count += 1;
     }
     count
 }
 
 /// Microseconds per call over one sample.
-fn sample(bench: &mut Bench, call: fn(&mut Bench) -> u32, repeats: u32) -> f64 {
+fn sample<T>(bench: &mut T, call: fn(&mut T) -> u32, repeats: u32) -> f64 {
     let start = Instant::now();
     for _ in 0..repeats {
-        black_box(call(black_box(bench)));
+        black_box(call(black_box(&mut *bench)));
     }
     start.elapsed().as_secs_f64() * 1e6 / repeats as f64
 }
@@ -102,13 +102,12 @@ fn median(mut times: Vec<f64>) -> f64 {
 }
 
 /// Times both programs in turn, so that whatever else the machine does falls on both.
-fn time(mode: u8, k: u8, job: &Job) -> (f64, f64) {
-    let (mut for_library, mut for_plain) = (Bench::new(mode, k), Bench::new(mode, k));
-    let (many, own_many) = (repeats(&mut for_library, job.1), repeats(&mut for_plain, job.2));
+fn time<T>(for_library: &mut T, for_plain: &mut T, by_library: fn(&mut T) -> u32, by_plain: fn(&mut T) -> u32) -> (f64, f64) {
+    let (many, own_many) = (repeats(for_library, by_library), repeats(for_plain, by_plain));
     let (mut library, mut plain) = (Vec::new(), Vec::new());
     for _ in 0..SAMPLES {
-        library.push(sample(&mut for_library, job.1, many));
-        plain.push(sample(&mut for_plain, job.2, own_many));
+        library.push(sample(for_library, by_library, many));
+        plain.push(sample(for_plain, by_plain, own_many));
     }
     (median(library), median(plain))
 }
@@ -209,6 +208,65 @@ fn print_cuttings() {
     }
 }
 
+/// Two grids of 7 symbols as bit patterns, the list lent for their differences, and how many there are. Each program gets its own.
+#[derive(Clone, PartialEq)]
+struct Pair {
+    a: [Vec<u32>; 2],
+    b: [Vec<u32>; 2],
+    list: Vec<u32>,
+    count: u64,
+}
+
+impl Pair {
+    /// A grid as sent, and the same with the second part's sign turned over in one of n cells, here and there; in none for n = 0.
+    fn new(n: u32, list: usize) -> Pair {
+        let sent = Bench::new(0, 12);
+        let a = [sent.firsts, sent.seconds].map(|parts| parts.iter().map(|part| part.to_bits()).collect::<Vec<u32>>());
+        let (mut b, mut state) = (a.clone(), 1u32);
+        for part in &mut b[1] {
+            state = state.wrapping_mul(1_664_525).wrapping_add(1_013_904_223);
+            if n > 0 && (state >> 8) % n == 0 {
+                *part ^= 1 << 31;
+            }
+        }
+        Pair { a, b, list: vec![0; list], count: 0 }
+    }
+}
+
+fn compared_by_library(p: &mut Pair) -> u32 {
+    let (number, count) = library::compare(&p.a[0], &p.a[1], &p.b[0], &p.b[1], &mut p.list);
+    p.count = count;
+    number
+}
+
+fn compared_by_plain(p: &mut Pair) -> u32 {
+    let (number, count) = plain::compare(&p.a[0], &p.a[1], &p.b[0], &p.b[1], &mut p.list);
+    p.count = count;
+    number
+}
+
+/// Comparing: a name, of how many cells one differs, and for how many there is room in the list.
+const COMPARISONS: [(&str, u32, usize); 5] = [
+    ("the same", 0, 7 * CELLS),
+    ("1 in 1000 differs", 1000, 7 * CELLS),
+    ("1 in 10 differs", 10, 7 * CELLS),
+    ("all differ", 1, 7 * CELLS),
+    ("all differ, no list", 1, 0),
+];
+
+fn print_comparisons() {
+    println!();
+    println!("Two grids of 7 symbols compared: microseconds a pair, samples in turn as above. The list has room for all cells, but in");
+    println!("the last line it has none.");
+    println!("{:<22}{:>10}{:>10}{:>10}{:>8}", "", "count", "library", "plain", "ratio");
+    for (name, n, room) in COMPARISONS {
+        let (mut for_library, mut for_plain) = (Pair::new(n, DIFFERENCE * room), Pair::new(n, DIFFERENCE * room));
+        let (library, plain) = time(&mut for_library, &mut for_plain, compared_by_library, compared_by_plain);
+        assert!(for_library == for_plain, "both programs must find the same differences");
+        println!("{name:<22}{:>10}{library:>10.1}{plain:>10.1}{:>8.2}", for_plain.count, library / plain);
+    }
+}
+
 fn main() {
     println!("Time per block in microseconds, median of {SAMPLES} samples of {} or more, both programs in turn.", SAMPLE.as_micros());
     println!("Buffers, the same for both: each program has its own, reused from call to call and not cleared in between, so they");
@@ -216,10 +274,11 @@ fn main() {
     println!("{:<6}{:<5}{:<20}{:>10}{:>10}{:>8}", "mode", "K", "", "library", "plain", "ratio");
     for (mode, k) in [0, 1].into_iter().flat_map(|mode| [8, 12, 14].map(|k| (mode, k))) {
         for job in &JOBS {
-            let (library, plain) = time(mode, k, job);
+            let (library, plain) = time(&mut Bench::new(mode, k), &mut Bench::new(mode, k), job.1, job.2);
             println!("{mode:<6}{k:<5}{:<20}{library:>10.1}{plain:>10.1}{:>8.2}", job.0, library / plain);
         }
     }
     print_parity();
     print_cuttings();
+    print_comparisons();
 }
