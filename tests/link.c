@@ -495,7 +495,7 @@ static struct pair {
     uint32_t firsts_a[CELLS], seconds_a[CELLS], firsts_b[CELLS], seconds_b[CELLS];
     size_t cells;
     uint32_t differences[CELLS * FLO_DIFFERENCE + FLO_DIFFERENCE]; /* painted before each call, as the count is */
-    uint64_t count;
+    uint64_t count, behind;
 } two;
 
 enum { DIFFERENCES = sizeof two.differences / sizeof two.differences[0] };
@@ -514,6 +514,7 @@ static void begin_pair(size_t symbols) {
 static uint32_t compare_lengths(size_t one, size_t second, size_t third, size_t fourth, size_t length) {
     memset(two.differences, PAINT, sizeof two.differences);
     memset(&two.count, PAINT, sizeof two.count);
+    memset(&two.behind, PAINT, sizeof two.behind);
     return flo_compare(one ? two.firsts_a : NULL, one, second ? two.seconds_a : NULL, second, third ? two.firsts_b : NULL, third,
                        fourth ? two.seconds_b : NULL, fourth, length ? two.differences : NULL, length, &two.count);
 }
@@ -529,11 +530,12 @@ static int is_listed(size_t number, uint32_t symbol, uint32_t cell) {
     return memcmp(two.differences + number * FLO_DIFFERENCE, six, sizeof six) == 0;
 }
 
-/* Behind so many differences the list is as it was: the next number is painted, and each is as the one before it. */
+/* Behind so many differences the list is as it was: the next number is painted, and each is as the one before it. So is what follows the count. */
 static int is_kept_behind(size_t number) {
     const uint32_t *rest = two.differences + number * FLO_DIFFERENCE;
     const size_t length = DIFFERENCES - number * FLO_DIFFERENCE;
-    return is_painted(rest, sizeof *rest) && memcmp(rest, rest + 1, (length - 1) * sizeof *rest) == 0;
+    return is_painted(&two.behind, sizeof two.behind) && is_painted(rest, sizeof *rest) &&
+           memcmp(rest, rest + 1, (length - 1) * sizeof *rest) == 0;
 }
 
 /* Both zeros, a subnormal, both ones, both infinities, and NaNs: quiet, of another payload, signalling, of the other sign. */
@@ -600,16 +602,17 @@ static int is_turned_down(uint32_t number, size_t one, size_t second, size_t thi
 }
 
 static void test_lengths(void) {
-    static const size_t lengths[] = {0, 1, FLO_SYMBOL_CELLS - 1, FLO_SYMBOL_CELLS, FLO_SYMBOL_CELLS + 1, 2 * FLO_SYMBOL_CELLS, CELLS};
+    static const size_t lengths[] = {0, 1, FLO_SYMBOL_CELLS / 2, FLO_SYMBOL_CELLS - 1, FLO_SYMBOL_CELLS, FLO_SYMBOL_CELLS + 1, CELLS - 1, CELLS};
+    enum { LENGTHS = sizeof lengths / sizeof lengths[0] };
     unsigned i, j;
     begin_pair(FLO_MOST_SYMBOLS);
     for (i = 0; i < CELLS; i++) two.firsts_b[i] ^= 1;
-    for (i = 0; i < 7; i++) {
+    for (i = 0; i < LENGTHS; i++) {
         const size_t n = lengths[i];
         const uint32_t number = n % FLO_SYMBOL_CELLS == 0 ? FLO_DONE : FLO_CELLS_LENGTH;
         test("whole symbols or not", compare_lengths(n, n, n, n, 0) == number && two.count == (number == FLO_DONE ? n : 0));
         test("not whole symbols", number == FLO_DONE || is_turned_down(number, n, n, n, n));
-        for (j = 0; j < 7; j++) {
+        for (j = 0; j < LENGTHS; j++) {
             const size_t m = lengths[j];
             if (i == j) continue;
             test("one list of another length", is_turned_down(FLO_LENGTHS_DIFFER, m, n, n, n) && is_turned_down(FLO_LENGTHS_DIFFER, n, m, n, n) &&
