@@ -3,3 +3,4 @@ pub mod Filling
 pub mod Passing
 pub mod Going
 pub mod SideBySide
+pub mod Edges
