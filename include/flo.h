@@ -136,13 +136,13 @@ uint32_t flo_write_profile(const uint32_t masks[8], float level, uint8_t mode, u
    the block isn't 1952 bytes long. There is no profile here, and so no place. */
 uint32_t flo_parity(uint8_t k, uint8_t *block, size_t block_length);
 
-/* Compares two grids A and B: 0, 18, 7. Each is two lists of f32 bit patterns, the 32 bits of a float as memcpy takes them, and has any number of whole
-   symbols (4096 cells), the same in all four lists; none is fine too. Patterns are compared and not values: +0.0 and -0.0 differ, and a NaN equals only
-   the same bits.
+/* Compares two grids A and B: 0, 18, 7. Each is two lists of f32 bit patterns, the 32 bits of a float as memcpy takes them, and has any number of
+   whole symbols (4096 cells), as many in all four lists; none is fine too. The four lists may share memory. Patterns are compared and not values:
+   +0.0 and -0.0 differ, and a NaN equals only the same bits.
    At 0 `count` is how many cells differ, and `differences` lists them by rising symbol and cell, FLO_DIFFERENCE numbers each: symbol, cell, first and
-   second part of A, first and second part of B. If the list is too short, it has the first differences that fit whole, what lies behind them keeps what it
-   held, and `count` is still that of all. On a refusal `count` is 0. There is no profile here, and so no place. (A symbol's number is listed in 32 bits;
-   only of grids with more than 2^32 symbols that isn't the whole number.) */
+   second part of A, first and second part of B. If the list is too short, it has the first differences that fit whole, what lies behind them keeps
+   what it held, and `count` is still that of all. On a refusal `count` is 0. There is no profile here, and so no place. (A symbol's number is listed in
+   32 bits; only of grids with more than 2^32 symbols that isn't the whole number.) */
 uint32_t flo_compare(const uint32_t *firsts_a, size_t firsts_a_length, const uint32_t *seconds_a, size_t seconds_a_length, const uint32_t *firsts_b,
                      size_t firsts_b_length, const uint32_t *seconds_b, size_t seconds_b_length, uint32_t *differences, size_t differences_length,
                      uint64_t *count);

@@ -1,6 +1,6 @@
 //! An independent sender and receiver, written from the text of document 01 and of document 02's Req 01, 02, 04 and 05 alone (a state's bytes
-//! and what a list of differences holds are flo.h's) and in the ordinary way: log tables, precomputed addresses and places, one bit per byte. The outside tests compare the C library
-//! with it, and the benchmark times the two side by side.
+//! and what a list of differences holds are flo.h's) and in the ordinary way: log tables, precomputed addresses and places, one bit per byte.
+//! The outside tests compare the C library with it, and the benchmark times the two side by side.
 //!
 //! Names are the documents'. `r` is 16 - K, `n` the slots of one packet, `p` a packet, `t` a block slot, `j` a column.
 
