@@ -129,20 +129,21 @@ examples =
     ∷ record { given = difference 0 (grids (1 ∷ []) (2 ∷ []) (3 ∷ []) (4 ∷ [])) 0; said = 0 ∷ 0 ∷ 1 ∷ 2 ∷ 3 ∷ 4 ∷ [] }
     ∷ record { given = difference 0 (grids [] [] [] []) 4095; said = 0 ∷ 4095 ∷ 0 ∷ 0 ∷ 0 ∷ 0 ∷ [] }
     ∷ record { given = difference 5 (grids [] [] [] []) 8193; said = 7 ∷ 1 ∷ 0 ∷ 0 ∷ 0 ∷ 0 ∷ [] }
+    ∷ record { given = difference 0xFFFF_FFFE (grids [] [] [] []) 4096; said = 0xFFFF_FFFF ∷ 0 ∷ 0 ∷ 0 ∷ 0 ∷ 0 ∷ [] }
     ∷ record { given = difference 0xFFFF_FFFF (grids [] [] [] []) 4096; said = 0 ∷ 0 ∷ 0 ∷ 0 ∷ 0 ∷ 0 ∷ [] }
     -- Req 05 two differences in a list with one number to spare, in one that is one too short, and where none fits
     ∷ record { given = filled twoOf (replicate 13 9); said = 0 ∷ 0 ∷ 1 ∷ 2 ∷ 3 ∷ 4 ∷ 0 ∷ 1 ∷ 5 ∷ 6 ∷ 7 ∷ 8 ∷ 9 ∷ [] }
     ∷ record { given = filled twoOf (replicate 12 9); said = 0 ∷ 0 ∷ 1 ∷ 2 ∷ 3 ∷ 4 ∷ 0 ∷ 1 ∷ 5 ∷ 6 ∷ 7 ∷ 8 ∷ [] }
     ∷ record { given = filled twoOf (replicate 11 9); said = 0 ∷ 0 ∷ 1 ∷ 2 ∷ 3 ∷ 4 ∷ 9 ∷ 9 ∷ 9 ∷ 9 ∷ 9 ∷ [] }
     ∷ record { given = filled twoOf (replicate 5 9); said = 9 ∷ 9 ∷ 9 ∷ 9 ∷ 9 ∷ [] }
-    -- Req 05 empty grids, one symbol, seven; one cell too many, 7; a list of another length, 18, also where none is whole symbols
+    -- Req 05 empty grids, one symbol, seven; what is no whole symbols, 7; a list of another length, 18, also where none is whole symbols
     ∷ record {
       given = comparingNumber 0 0 0 0 ∷ comparingNumber 4096 4096 4096 4096 ∷ comparingNumber 28672 28672 28672 28672 ∷ [];
       said = 0 ∷ 0 ∷ 0 ∷ [];
     }
     ∷ record {
-      given = comparingNumber 1 1 1 1 ∷ comparingNumber 4095 4095 4095 4095 ∷ comparingNumber 4097 4097 4097 4097 ∷ [];
-      said = 7 ∷ 7 ∷ 7 ∷ [];
+      given = comparingNumber 1 1 1 1 ∷ comparingNumber 2048 2048 2048 2048 ∷ comparingNumber 4095 4095 4095 4095 ∷ comparingNumber 4097 4097 4097 4097 ∷ [];
+      said = 7 ∷ 7 ∷ 7 ∷ 7 ∷ [];
     }
     ∷ record {
       given = comparingNumber 1 0 0 0 ∷ comparingNumber 0 1 0 0 ∷ comparingNumber 0 0 4096 0 ∷ comparingNumber 3 3 3 2 ∷ [];
