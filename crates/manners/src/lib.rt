@@ -1,15 +1,17 @@
-// How the programs speak, and what they share on their input and output. What each writes on standard error has one of five forms, by which `bin/` knows the exit status:
+// How the programs speak, and what they share on their input and output. What each writes on standard error has one of six forms, by which `bin/` knows the exit status:
 //
 //     N words                          a refusal: the documents' number, and what it means
 //     N at byte P: words               a refusal that names a field of the profile's bytes: which of its numbers, what it is, what is allowed
 //     profile_text: line N: words      a refused text; `profile_text: text: words` where no line is at fault
 //     NAME: cannot words               trouble: input that can't be read, output that can't be written
 //     usage: words                     words that the program does not take
+//     compare: cells differ            no trouble: what was compared isn't the same. `bin/` keeps this line for itself
 //
-// A program that did what was asked says nothing there.
+// A program that did what was asked says nothing else there.
 pub mod field;
 pub mod put;
 
+use libc::PATH_MAX;
 use libc::STDERR_FILENO;
 use libc::STDIN_FILENO;
 use libc::STDOUT_FILENO;
@@ -17,11 +19,15 @@ use libc::STDOUT_FILENO;
 // Room for a line.
 const ROOM: usize = 256;
 
+// Room for a line with a path.
+const PATH_ROOM: usize = PATH_MAX + 128;
+
 // What the words after a program's name are.
 pub enum Request {
     Nothing,
     Help,
     Word,
+    TwoWords,
     Wrong,
 }
 
@@ -50,18 +56,38 @@ pub fn same(a: &[u8], b: &[u8]) -> bool {
     true
 }
 
-// What the one word after a program's name is: it is not empty, and only --help begins with a dash.
-fn asked_by_word() -> Request {
+// Whether the first word is --help.
+fn is_help() -> bool {
     let mut word = [0u8; 8];
     let n = os::arg(1, &mut word);
+    same(&word[..n], b"--help")
+}
+
+// Whether argument i can be a word of a program's: it is not empty, and only --help begins with a dash.
+fn is_word(i: usize) -> bool {
+    let mut first = [0u8; 1];
+    let n = os::arg(i, &mut first);
     let is_empty = n == 0 && os::errno() == 0;
-    if same(&word[..n], b"--help") {
+    !is_empty && first[0] != b'-'
+}
+
+fn asked_by_word() -> Request {
+    if is_help() {
         return Request::Help;
     }
-    if is_empty || word[0] == b'-' {
-        return Request::Wrong;
+    if is_word(1) {
+        Request::Word
+    } else {
+        Request::Wrong
     }
-    Request::Word
+}
+
+fn asked_by_two() -> Request {
+    if is_word(1) && is_word(2) {
+        Request::TwoWords
+    } else {
+        Request::Wrong
+    }
 }
 
 // What the words after a program's name are.
@@ -69,6 +95,7 @@ pub fn asked() -> Request {
     match os::arg_count() {
         0 | 1 => Request::Nothing,
         2 => asked_by_word(),
+        3 => asked_by_two(),
         _ => Request::Wrong,
     }
 }
@@ -80,11 +107,44 @@ pub fn usage(words: &[u8]) {
     io::write_all(STDERR_FILENO, b"\n");
 }
 
+// That what a program compared isn't the same: its result, for the exit status.
+pub fn differ(program: &[u8]) {
+    io::write_all(STDERR_FILENO, program);
+    io::write_all(STDERR_FILENO, b": cells differ\n");
+}
+
 // Trouble, by errno: what the program can't do.
 pub fn cannot(program: &[u8], what: &[u8]) {
     io::write_all(STDERR_FILENO, program);
     io::write_all(STDERR_FILENO, b": cannot ");
     os::fail(what);
+}
+
+// What is to be done with a path, which came from outside.
+fn deed(out: &mut [u8], at: usize, verb: &[u8], path: &[u8]) -> usize {
+    let at = put::bytes(out, at, verb);
+    let at = put::bytes(out, at, b" ");
+    put::foreign(out, at, path)
+}
+
+// Trouble with a file, by errno: what the program can't do with it.
+pub fn cannot_file(program: &[u8], verb: &[u8], path: &[u8]) {
+    let mut what = [0u8; PATH_ROOM];
+    let n = deed(&mut what, 0, verb, path);
+    if n <= what.len() {
+        cannot(program, &what[0..n]);
+    }
+}
+
+// Trouble with a file, by words: what the program can't do with it, and why.
+pub fn cannot_file_since(program: &[u8], verb: &[u8], path: &[u8], why: &[u8]) {
+    let mut line = [0u8; PATH_ROOM];
+    let at = put::bytes(&mut line, 0, program);
+    let at = put::bytes(&mut line, at, b": cannot ");
+    let at = deed(&mut line, at, verb, path);
+    let at = put::bytes(&mut line, at, b": ");
+    let at = put::bytes(&mut line, at, why);
+    put::say(&mut line, at);
 }
 
 // Writes to standard output; answers whether it could, and says so where it can't.
@@ -132,6 +192,7 @@ fn meaning(out: &mut [u8], at: usize, number: u32) -> usize {
         ),
         16 => put::bytes(out, at, b"the piece reaches past the grid's end"),
         17 => put::bytes(out, at, b"the last cell has not come yet"),
+        18 => put::bytes(out, at, b"the two grids aren't of one length"),
         22 => put::bytes(out, at, b"a state that no feeding with this profile leaves"),
         40 => put::bytes(out, at, b"a mask is outside its range"),
         41 => put::bytes(out, at, b"the level is outside its range"),
@@ -217,4 +278,20 @@ pub fn refuse_surplus(number: u32, read: u64, due: u64) {
 // A refusal for too many lost packets.
 pub fn refuse_lost(number: u32, lost: u64, r: u64) {
     refuse_counted(number, b": ", lost, b" are lost, r is ", r, b"");
+}
+
+// A refusal for two files of cells that aren't of one length.
+pub fn refuse_unequal(number: u32, a: u64, b: u64) {
+    refuse_counted(number, b": A has ", a, b" bytes, B has ", b, b"");
+}
+
+// A refusal for two files of cells of one length, which is wrong.
+pub fn refuse_both(number: u32, bytes: u64) {
+    let mut out = [0u8; ROOM];
+    let at = numbered(&mut out, number);
+    let at = meaning(&mut out, at, number);
+    let at = put::bytes(&mut out, at, b": each file has ");
+    let at = put::decimal(&mut out, at, bytes);
+    let at = put::bytes(&mut out, at, b" bytes");
+    put::say(&mut out, at);
 }

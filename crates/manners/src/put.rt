@@ -40,12 +40,17 @@ pub fn decimal(out: &mut [u8], at: usize, x: u64) -> usize {
     bytes(out, at, &text[..k])
 }
 
-// A pattern in hexadecimal.
-pub fn pattern(out: &mut [u8], at: usize, x: u32) -> usize {
+// A pattern's eight digits in hexadecimal.
+pub fn digits(out: &mut [u8], at: usize, x: u32) -> usize {
     let mut text = [0u8; 16];
     let k = io::hex(x as u64, 8, &mut text);
-    let at = bytes(out, at, b"0x");
     bytes(out, at, &text[..k])
+}
+
+// A pattern in hexadecimal, with the mark of such a number before it.
+pub fn pattern(out: &mut [u8], at: usize, x: u32) -> usize {
+    let at = bytes(out, at, b"0x");
+    digits(out, at, x)
 }
 
 // Writes the first n bytes of a buffer, and answers whether it could.

@@ -7,9 +7,6 @@ ghost use Rattle.libc.specs.Io.{Ended};
 use libc::PATH_MAX;
 use manners::put;
 
-// Room for a line with a path.
-const ROOM: usize = PATH_MAX + 128;
-
 // The last byte of a path's room.
 const LAST: usize = PATH_MAX - 1;
 
@@ -23,25 +20,17 @@ enum Place {
 
 // Says that the name can't be written, by errno.
 fn cannot_write(path: &[u8]) {
-    let mut what = [0u8; ROOM];
-    let at = put::bytes(&mut what, 0, b"write ");
-    let n = put::foreign(&mut what, at, path);
-    if n <= what.len() {
-        manners::cannot(b"receive", &what[0..n]);
-    }
+    manners::cannot_file(b"receive", b"write", path);
 }
 
 // Says that a link is not written to.
 fn refuse_link(path: &[u8]) {
-    let mut line = [0u8; ROOM];
-    let at = put::bytes(&mut line, 0, b"receive: cannot write ");
-    let at = put::foreign(&mut line, at, path);
-    let at = put::bytes(
-        &mut line,
-        at,
-        b": it is a link, name the file that it leads to",
+    manners::cannot_file_since(
+        b"receive",
+        b"write",
+        path,
+        b"it is a link, name the file that it leads to",
     );
-    put::say(&mut line, at);
 }
 
 // The path with zeros after it, as C takes it.

@@ -307,8 +307,6 @@ fn main() {
         Request::Nothing => run(),
         Request::Word => run(),
         Request::Help => help(),
-        Request::Wrong => manners::usage(
-            b"receive [FILE] < input > report; receive --help says more",
-        ),
+        _ => manners::usage(b"receive [FILE] < input > report; receive --help says more"),
     }
 }
