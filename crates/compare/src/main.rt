@@ -8,7 +8,7 @@ ghost use Prim.Native.Nat.{_*_, _≤_};
 ghost use mathlib.Core.Path.{_≡_};
 ghost use lib.ListN.{length};
 ghost use Rattle.rules.specs.Compare.{grids, differing};
-ghost use Rattle.compare.specs.Symbol.{OneSymbol};
+ghost use Rattle.rules.specs.Demands.{Symbols};
 use manners::Request;
 use manners::put;
 
@@ -84,7 +84,7 @@ fn compare_lists(
     firsts_b: &[u32],
     seconds_b: &[u32],
 ) -> Found
-    requires { ⌜ OneSymbol (grids (now «firsts_a») (now «seconds_a») (now «firsts_b») (now «seconds_b»)) ⌝ }
+    requires { ⌜ Symbols (grids (now «firsts_a») (now «seconds_a») (now «firsts_b») (now «seconds_b»)) 1 ⌝ }
     ensures { λ r. ⌜ (r .count ≡ length (differing (grids (now («firsts_a» .entry)) (now («seconds_a» .entry)) (now («firsts_b» .entry)) (now («seconds_b» .entry)))))
         × (r .count ≤ 4096) ⌝ }
 {

@@ -36,6 +36,10 @@ module _ (G : Grids) where
   unfolding differing
   none-left-out i lt t = none-missing count 0 (differs G) i (omega arith, omega arith, t)
 
+  pub differing-few : length (differing G) ≤ count
+  unfolding differing
+  differing-few = passing-few count 0 (differs G)
+
   -- a cell that does not differ has the same parts
   alike : (i : ℕ) → ¬ T (differs G i) → (row (G .firsts-a) i ≡ row (G .firsts-b) i) × (row (G .seconds-a) i ≡ row (G .seconds-b) i)
   alike i no-t = go (ℕ-discrete (row (G .firsts-a) i) (row (G .firsts-b) i)) (ℕ-discrete (row (G .seconds-a) i) (row (G .seconds-b) i))
@@ -80,7 +84,7 @@ module _ (G : Grids) where
           go (no ge) = omega arith
 
 -- whole symbols, as many in each list, are not refused
-symbols-number : (G : Grids) (n : ℕ)
+pub symbols-number : (G : Grids) (n : ℕ)
     → Symbols G n
     → comparingNumber (length (G .firsts-a)) (length (G .seconds-a)) (length (G .firsts-b)) (length (G .seconds-b)) ≡ 0
 unfolding comparingNumber
@@ -224,8 +228,7 @@ module _ (G : Grids) (n : ℕ) (s : Symbols G n) where
     alone-count = ap length alone-passing ∙ map-long (λ i. 4096 * y + i) (differing (symbolAlone G y))
 
     alone-few : length (differing (symbolAlone G y)) ≤ 4096
-    unfolding differing
-    alone-few = omega (arith, passing-few (length (symbolAlone G y .firsts-a)) 0 (differs (symbolAlone G y)), alone-symbols .0)
+    alone-few = omega (arith, differing-few (symbolAlone G y), alone-symbols .0)
 
   -- the first m symbols
   firstly : (m : ℕ) → passing (4096 * suc m) 0 (differs G) ≡ passing (4096 * m) 0 (differs G) ++ passing 4096 (4096 * m) (differs G)
