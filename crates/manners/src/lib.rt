@@ -209,12 +209,30 @@ fn numbered(out: &mut [u8], number: u32) -> usize {
     put::bytes(out, at, b" ")
 }
 
+// Words, and a number behind them.
+fn counted(out: &mut [u8], at: usize, words: &[u8], n: u64) -> usize {
+    let at = put::bytes(out, at, words);
+    put::decimal(out, at, n)
+}
+
+// A refusal's number and meaning.
+fn meant(out: &mut [u8], number: u32) -> usize {
+    let at = numbered(out, number);
+    meaning(out, at, number)
+}
+
 // A refusal.
 pub fn refuse(number: u32) {
     let mut out = [0u8; ROOM];
-    let at = numbered(&mut out, number);
-    let at = meaning(&mut out, at, number);
+    let at = meant(&mut out, number);
     put::say(&mut out, at);
+}
+
+// The start of a refusal's line that names a place.
+fn placed(out: &mut [u8], number: u32, place: u64) -> usize {
+    let at = put::decimal(out, 0, number as u64);
+    let at = counted(out, at, b" at byte ", place);
+    put::bytes(out, at, b": ")
 }
 
 // A refusal of what the bytes begin with, at a place of the profile.
@@ -224,10 +242,7 @@ fn refuse_at(number: u32, place: usize, bytes: &[u8]) {
         return refuse(number);
     }
     let mut out = [0u8; ROOM];
-    let at = put::decimal(&mut out, 0, number as u64);
-    let at = put::bytes(&mut out, at, b" at byte ");
-    let at = put::decimal(&mut out, at, place as u64);
-    let at = put::bytes(&mut out, at, b": ");
+    let at = placed(&mut out, number, place as u64);
     let at = field::before(&mut out, at, number, field::index(number, place));
     let at = field::value(&mut out, at, number, &bytes[0..n]);
     let at = field::after(&mut out, at, number);
@@ -255,12 +270,9 @@ pub fn refuse_short_input(number: u32, what: &[u8]) {
 // A refusal with two counts behind its meaning, and the words before each and after them.
 fn refuse_counted(number: u32, first: &[u8], a: u64, second: &[u8], b: u64, last: &[u8]) {
     let mut out = [0u8; ROOM];
-    let at = numbered(&mut out, number);
-    let at = meaning(&mut out, at, number);
-    let at = put::bytes(&mut out, at, first);
-    let at = put::decimal(&mut out, at, a);
-    let at = put::bytes(&mut out, at, second);
-    let at = put::decimal(&mut out, at, b);
+    let at = meant(&mut out, number);
+    let at = counted(&mut out, at, first, a);
+    let at = counted(&mut out, at, second, b);
     let at = put::bytes(&mut out, at, last);
     put::say(&mut out, at);
 }
@@ -288,10 +300,8 @@ pub fn refuse_unequal(number: u32, a: u64, b: u64) {
 // A refusal for two files of cells of one length, which is wrong.
 pub fn refuse_both(number: u32, bytes: u64) {
     let mut out = [0u8; ROOM];
-    let at = numbered(&mut out, number);
-    let at = meaning(&mut out, at, number);
-    let at = put::bytes(&mut out, at, b": each file has ");
-    let at = put::decimal(&mut out, at, bytes);
+    let at = meant(&mut out, number);
+    let at = counted(&mut out, at, b": each file has ", bytes);
     let at = put::bytes(&mut out, at, b" bytes");
     put::say(&mut out, at);
 }
