@@ -1,16 +1,16 @@
 -- Req 05: the differences exactly, each once, in order, none left out; and symbol by symbol they are the whole grids'.
 use mathlib.Core.Path.{_≡_, refl, sym, _∙_, ap, ap₂, subst}
-use mathlib.Core.Bool.{Bool, true, false, not, _&&_}
-use mathlib.Core.List.{List, [], _++_, map}
+use mathlib.Core.Bool.{Bool, not, _&&_}
+use mathlib.Core.List.{List, _++_, map}
 use mathlib.Core.Logic.{_⊎_, _↔_}
-use Prim.Native.Nat.{ℕ, zero, suc, _+_, _*_, _/_, _%_, _^_, _<_, _≤_}
+use Prim.Native.Nat.{ℕ, zero, suc, _+_, _*_, _/_, _%_, _<_, _≤_}
 use native.Mathlib.Decide.{ℕ-discrete, decLt}
 use native.Mathlib.Omega.{arith}
 use borrow.Author.Tests.{eq-eqb, ne-eqb}
 use lib.Dec.{T, eqb}
 use lib.ListN.{length, take, drop, length-append, length-drop}
 use lib.Seq.{ext-getD, getD-take, getD-drop, length-take-le}
-use Rattle.rules.specs.Bits.{pick, row, passing}
+use Rattle.rules.specs.Bits.{row, passing}
 use Rattle.rules.specs.Compare.{Grids, differs, differing, difference, differences, filled, oneLength, comparingNumber, CompareRule, symbolAlone, inTurn, total}
 use Rattle.rules.specs.Demands.{Symbols, SideBySide}
 use Rattle.rules.specs.declared.Comparison.{Comparison}

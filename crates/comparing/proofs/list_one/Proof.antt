@@ -1,5 +1,5 @@
 -- At the loop's head the first k numbers of the difference are in.
-use mathlib.Core.Path.{_≡_, sym, _∙_, ap, subst}
+use mathlib.Core.Path.{_≡_, sym, _∙_, ap}
 use mathlib.Core.List.{List}
 use Prim.Native.Nat.{ℕ, _+_, _-_, _<_, _≤_}
 use native.Mathlib.Numerals.{add-one}
@@ -7,7 +7,6 @@ use native.Mathlib.Omega.{arith}
 use borrow.Author.Needs.{needs}
 use lib.ListN.{length, set, getD}
 use lib.Seq.{paste, paste-zero, paste-suc, length-paste}
-use Rattle.comparing.specs.Listing.{Gone}
 use Rattle.comparing.proofs.Filling.{none-gone, one-gone}
 use Rattle.comparing.proofs.list_one.Statement.{statement}
 use Rattle.comparing.proofs.list_one.Tie as tie
