@@ -28,15 +28,16 @@ extern "C" {
 /* Sizes. Each of the two cell lists of a whole grid has FLO_SYMBOLS(mode) * FLO_SYMBOL_CELLS floats, and the data k * FLO_PACKET_BYTES bytes. */
 #define FLO_SYMBOL_CELLS 4096                     /* cells of a symbol */
 #define FLO_MOST_SYMBOLS 7                        /* symbols of the largest grid */
-#define FLO_SYMBOLS(mode) ((mode) == 0 ? 7 : 5)   /* symbols of a grid, for modes 0 and 1 */
+/* symbols of a grid, for modes 0 to 4: QPSK with rates 1/3 and 1/2, 16QAM with rates 1/3, 1/2 and 2/3 */
+#define FLO_SYMBOLS(mode) ((mode) == 0 ? 7 : (mode) == 1 ? 5 : (mode) == 2 ? 4 : (mode) == 3 ? 3 : 2)
 #define FLO_PACKETS 16                            /* packets of a block: k of data, then the parity packets */
 #define FLO_PACKET_BYTES 122                      /* bytes of a packet */
 #define FLO_BLOCK_BYTES 1952                      /* bytes of a block's 16 packets */
 #define FLO_MOST_DATA 1708                        /* bytes of the most data, at k = 14 */
 #define FLO_MASKS 8                               /* scrambling masks of a profile */
-#define FLO_SEEDS 48                              /* places for seeds in a profile as a value; mode 1 uses 32, and the others are zero */
-#define FLO_MOST_PROFILE 245                      /* bytes of the longest profile; the other length is 181, in mode 1 */
-#define FLO_STATE 28674                           /* bytes of flo_feed's state, in both modes: 2, and one for each cell of the largest grid */
+#define FLO_SEEDS 48                              /* places for seeds in a profile as a value; modes 0 to 4 use 48, 32, 24, 16, 12, and the others are zero */
+#define FLO_MOST_PROFILE 245                      /* bytes of the longest profile, in mode 0; in modes 1 to 4 it has 181, 149, 117, 101 */
+#define FLO_STATE 28674                           /* bytes of flo_feed's state, in every mode: 2, and one for each cell of the largest grid */
 #define FLO_DIFFERENCE 6                          /* numbers that flo_compare lists for a difference */
 
 /* A thread with a stack of this many bytes can make every call. As measured on x86-64, a call takes at most 144,000 of them (docs/MEASURED.md). */
@@ -47,7 +48,8 @@ extern "C" {
 
    At 40 to 44 `place` is the byte of the profile, from 0, where the faulty number begins; of the masks and of the seeds it is the first faulty one's.
    The masks begin at bytes 3, 7, .. 31, the level at 38, mode and K are bytes 45 and 49, and the seeds begin at bytes 53, 57, .. . At every other
-   number, 0 too, `place` is zero. */
+   number, 0 too, `place` is zero. The profile's numbers are tested in the order of its bytes; only the level is tested once more right after the mode
+   (41, byte 38), since modes 2 to 4 also send three times the level, rounded once to a float, and that has to be finite. */
 enum flo_number {
     FLO_DONE = 0,
     FLO_CUT_IN_FIELD = 1,    /* the profile ends inside a field */
@@ -65,8 +67,8 @@ enum flo_number {
     FLO_LENGTHS_DIFFER = 18, /* flo_compare: the four lists aren't all of one length */
     FLO_NO_SUCH_STATE = 22,  /* no feeding with this profile leaves such a state */
     FLO_BAD_MASK = 40,       /* a mask isn't from 1 to 2^20 - 1 */
-    FLO_BAD_LEVEL = 41,      /* the level isn't positive, finite and normal */
-    FLO_BAD_MODE = 42,       /* the mode isn't 0 or 1 */
+    FLO_BAD_LEVEL = 41,      /* the level isn't positive, finite and normal, or modes 2 to 4 can't send it: its triple isn't finite */
+    FLO_BAD_MODE = 42,       /* the mode isn't 0 to 4 */
     FLO_BAD_K = 43,          /* K isn't 8, 12 or 14 */
     FLO_BAD_SEED = 44        /* a seed isn't from 1 to 2^20 - 1, or an unused one isn't zero */
 };
@@ -75,7 +77,7 @@ enum flo_number {
 enum flo_reason {
     FLO_ACCEPTED = 0,        /* it isn't lost */
     FLO_MARKED = 11,         /* the caller marked it */
-    FLO_DOUBTFUL = 12,       /* a part of its cells is zero or NaN */
+    FLO_DOUBTFUL = 12,       /* a part of its cells is zero or NaN, or in modes 2 to 4 just twice the level or its negative */
     FLO_CHECK_WORD = 13,     /* its check word doesn't fit its data */
     FLO_RESERVED_BITS = 14,  /* its two reserved bits aren't zero */
     FLO_CODED_BITS = 15      /* its coded bits aren't those that its data gives */
@@ -110,9 +112,11 @@ uint32_t flo_receive(const uint8_t *profile, size_t profile_length, uint16_t mar
    - Bytes 0 and 1: how many cells have come, high byte first.
    - Byte 2 + c: cell c of the grid, where cell i of symbol y is 4096 * y + i. Zero before it has come, then d1 + 3 * d2, where d1 is the decision of
      its first part and d2 that of its second: 0 above zero, 1 below zero, 2 doubtful (zero of either sign, NaN). Cells that carry nothing have
-     theirs too. In mode 1 the bytes after its 5 symbols stay zero.
-   Every other state, and one of another length, is FLO_NO_SUCH_STATE. Of the profile, the state depends on the mode alone, and a state that was fed
-   in the other mode is noticed only where it has more cells than the grid. */
+     theirs too. In modes 1 to 4 the bytes after the grid's symbols stay zero.
+   In modes 2 to 4 the byte is d1 + 5 * d2 instead, and a decision is of two bits: 0 above twice the level, 1 below minus twice the level, 2 between zero
+   and twice the level, 3 between minus twice the level and zero, 4 doubtful (on one of these three lines, NaN).
+   Every other state, and one of another length, is FLO_NO_SUCH_STATE. Of the profile, the state depends on the mode and, in modes 2 to 4, on the
+   level; a state that was fed in another mode is noticed only where it has more cells than the grid, or a byte that the mode hasn't. */
 
 /* Takes a piece, which may be empty: 0, the profile's, 22, 7, 16. At 0 its cells are in the state, at every other number the state is as it was. */
 uint32_t flo_feed(const uint8_t *profile, size_t profile_length, uint8_t *state, size_t state_length, const float *firsts, size_t firsts_length,
@@ -126,8 +130,8 @@ uint32_t flo_ask(const uint8_t *profile, size_t profile_length, uint16_t marks, 
 uint32_t flo_read_profile(const uint8_t *profile, size_t profile_length, uint32_t masks[8], float *level, uint8_t *mode, uint8_t *k,
                           uint32_t seeds[48], size_t *place);
 
-/* Writes a profile: 0, 40 to 44, tested in this order; the place is counted as if the value had been written out. An unused seed (mode 1 uses 32 of
-   the 48) that isn't zero is 44 too, with the place where it would stand. The bytes after the written ones are zero; on a refusal all are, and the
+/* Writes a profile: 0, 40, 41, 42, 41 again, 43, 44, tested in this order; the place is counted as if the value had been written out. An unused seed
+   (mode 1 uses 32 of the 48) that isn't zero is 44 too, with the place where it would stand. The bytes after the written ones are zero; on a refusal all are, and the
    count is 0. */
 uint32_t flo_write_profile(const uint32_t masks[8], float level, uint8_t mode, uint8_t k, const uint32_t seeds[48], uint8_t profile[245],
                            size_t *count, size_t *place);

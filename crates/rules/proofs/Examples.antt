@@ -1,4 +1,4 @@
--- P1 to P12 of document 01, and what Req 01, Req 04 and Req 05 of document 02 name, hold of the rules as they are written.
+-- P1 to P12 of document 01, and what Req 01, 04, 05 and 06 of document 02 name, hold of the rules as they are written.
 use mathlib.Core.Path.{refl}
 use lib.Ieee as Ieee
 use Rattle.rules.specs.Examples.{Hold, examples}
@@ -8,11 +8,12 @@ use Rattle.rules.specs.Kept.{nextKept, counter, count}
 use Rattle.rules.specs.Interleaver.{address}
 use Rattle.rules.specs.Turbo.{state}
 use Rattle.rules.specs.Slots.{both, scramblerStep, scramblerState}
-use Rattle.rules.specs.Points.{decide}
+use Rattle.rules.specs.Modes.{mode, partBits, slotBits, packetBits, slots}
+use Rattle.rules.specs.Points.{triple, twice, signOf, sizeOf, decide}
 use Rattle.rules.specs.Cells.{placeOf, pointAt}
 use Rattle.rules.specs.Profile.{fault, walk, written}
 use Rattle.rules.specs.Compare.{differing, filled, comparingNumber}
 
 pub examples-hold : Hold examples
-unfolding _⊗_ double times alpha generator remainder nextKept counter count address state both scramblerStep scramblerState decide placeOf pointAt fault walk written differing filled comparingNumber Ieee.ofBits Ieee.toBits Ieee.lt Ieee.eq Ieee.le Ieee.neg
-examples-hold = (refl, (refl, (refl, (refl, (refl, (refl, (refl, (refl, (refl, (refl, (refl, (refl, (refl, (refl, (refl, (refl, (refl, (refl, (refl, (refl, (refl, (refl, (refl, (refl, (refl, (refl, (refl, (refl, (refl, (refl, (refl, (refl, (refl, (refl, (refl, (refl, (refl, (refl, (refl, (refl, (refl, (refl, (refl, (refl, (refl, tt)))))))))))))))))))))))))))))))))))))))))))))
+unfolding mode partBits slotBits packetBits slots triple twice signOf sizeOf _⊗_ double times alpha generator remainder nextKept counter count address state both scramblerStep scramblerState decide placeOf pointAt fault walk written differing filled comparingNumber Ieee.ofBits Ieee.toBits Ieee.mul Ieee.lt Ieee.eq Ieee.le Ieee.neg
+examples-hold = (refl, (refl, (refl, (refl, (refl, (refl, (refl, (refl, (refl, (refl, (refl, (refl, (refl, (refl, (refl, (refl, (refl, (refl, (refl, (refl, (refl, (refl, (refl, (refl, (refl, (refl, (refl, (refl, (refl, (refl, (refl, (refl, (refl, (refl, (refl, (refl, (refl, (refl, (refl, (refl, (refl, (refl, (refl, (refl, (refl, (refl, (refl, (refl, (refl, (refl, (refl, (refl, (refl, (refl, (refl, (refl, (refl, (refl, (refl, (refl, (refl, (refl, (refl, (refl, (refl, (refl, (refl, (refl, (refl, (refl, (refl, (refl, tt))))))))))))))))))))))))))))))))))))))))))))))))))))))))))))))))))))))))

@@ -4,22 +4,24 @@ use mathlib.Core.Bool.{Bool, true, _&&_, Bool·beq}
 use mathlib.Core.List.{List, [], _∷_}
 use Prim.Native.Nat.{ℕ, zero, suc, _+_, _-_, _*_, _/_, _%_}
 use lib.Dec.{T, eqb, leb, ltb}
-use lib.Ieee.{Float, binary32, ofBits, lt}
+use lib.Ieee.{Float, binary32, ofBits, neg, mul, lt}
 use Rattle.rules.specs.Bits.{pick, everyBelow, passing, row, bitOf, asNumber, byteBit}
 use Rattle.rules.specs.Packet.{checkStep, checkRegister, checkWord}
 use Rattle.rules.specs.Field.{_⊗_, double, times, alpha}
 use Rattle.rules.specs.Outer.{generator, value}
 use Rattle.rules.specs.Kept.{nextKept, counter, count}
 use Rattle.rules.specs.Interleaver.{tableD}
-use Rattle.rules.specs.Turbo.{Rate, half, third, state, ending, codedBit, codedLength}
+use Rattle.rules.specs.Turbo.{state, ending, codedBit, codedLength}
 use Rattle.rules.specs.Cells.{placeOf, pointAt}
 use Rattle.rules.specs.Examples.{firstOf}
 use Rattle.rules.specs.Answers.{isNumber, namesField, isAnswer, isReason, hasRead}
 use Rattle.rules.specs.Profile.{Tested, Field, fields, blank}
-use Rattle.rules.specs.Slots.{symbols}
-use Rattle.rules.specs.Points.{decide}
+use Rattle.rules.specs.Modes.{mode, slotBits, packetBits, slots, symbols}
+use Rattle.rules.specs.Points.{twice, signOf, sizeOf, decide}
 use Rattle.rules.specs.Pieces.{stateBytes, cellByte, isCellByte}
 use Rattle.rules.specs.declared.Profile.{Profile}
+use Rattle.rules.specs.declared.Rate.{Rate}
+use Rattle.rules.specs.declared.Rate.the-variants.{Half, Third, TwoThirds}
 
 -- the f32 of some bits
 abbrev f32 : ℕ → Float
@@ -58,15 +60,25 @@ sentFour R x x' = asNumber (codedLength R 4) (codedBit R (bitOf 4 x) (bitOf 4 x'
 
 -- The patterns and tails of both rates, against a program outside. These four pairs of rows tell any entry from any other that could stand
 -- in its place, but for the ending period 2, where X and Y0 are the same bit by the circuit
-pub half-sent : sentFour half 0b0100 0b1110 ∷ sentFour half 0b0010 0b0111 ∷ sentFour half 0b0000 0b0011 ∷ sentFour half 0b0001 0b0001 ∷ []
+pub half-sent : sentFour Half 0b0100 0b1110 ∷ sentFour Half 0b0010 0b0111 ∷ sentFour Half 0b0000 0b0011 ∷ sentFour Half 0b0001 0b0001 ∷ []
     ≡ 0x25AF0 ∷ 0x1DB1C ∷ 0x37 ∷ 0x36DB ∷ []
 unfolding codedBit state ending
 half-sent = refl
 
-pub third-sent : sentFour third 0b0100 0b1110 ∷ sentFour third 0b0010 0b0111 ∷ sentFour third 0b0000 0b0011 ∷ sentFour third 0b0001 0b0001 ∷ []
+pub third-sent : sentFour Third 0b0100 0b1110 ∷ sentFour Third 0b0010 0b0111 ∷ sentFour Third 0b0000 0b0011 ∷ sentFour Third 0b0001 0b0001 ∷ []
     ≡ 0xE6F6FC0 ∷ 0x1CF7078 ∷ 0x2001CF ∷ 0x1CEE77 ∷ []
 unfolding codedBit state ending
 third-sent = refl
+
+-- Rate 2/3 for six bits, of which the last two have a part of a pattern, in the same way
+abbrev pub sentSix : Rate → ℕ → ℕ → ℕ
+sentSix R x x' = asNumber (codedLength R 6) (codedBit R (bitOf 6 x) (bitOf 6 x') 6)
+
+pub two-thirds-sent : sentSix TwoThirds 0b010010 0b000100 ∷ sentSix TwoThirds 0b010100 0b111001 ∷ sentSix TwoThirds 0b110110 0b011100
+    ∷ sentSix TwoThirds 0b111001 0b011100 ∷ []
+    ≡ 0x997D ∷ 0xB14B ∷ 0x3BCC5 ∷ 0x3D3B5 ∷ []
+unfolding codedBit state ending
+two-thirds-sent = refl
 
 -- The table of what the desk says back has these numbers and no other below a byte's 256, receiving reads the cells at these, and gives these reasons
 pub numbers-listed : passing 256 0 isNumber ≡ 0 ∷ 1 ∷ 2 ∷ 3 ∷ 5 ∷ 6 ∷ 7 ∷ 8 ∷ 9 ∷ 10 ∷ 16 ∷ 17 ∷ 18 ∷ 22 ∷ 40 ∷ 41 ∷ 42 ∷ 43 ∷ 44 ∷ []
@@ -90,6 +102,7 @@ sizesOf (f ∷ fs) p = sizes (f .tested p) ∷ sizesOf fs p
 
 -- In mode 0, where every seed is in use, they are as many as document 01 gives the fields' values
 pub sizes-listed : sizesOf fields blank ≡ 32 ∷ 4 ∷ 1 ∷ 1 ∷ 192 ∷ []
+unfolding mode slotBits packetBits slots
 sizes-listed = refl
 
 pub read-listed : passing 256 0 hasRead ≡ 0 ∷ 9 ∷ 10 ∷ []
@@ -98,37 +111,47 @@ read-listed = refl
 pub reasons-listed : passing 256 0 isReason ≡ 0 ∷ 11 ∷ 12 ∷ 13 ∷ 14 ∷ 15 ∷ []
 reasons-listed = refl
 
--- The state has room for the largest grid. A cell's byte is one of these; here 1.0 is bit 0, -1.0 bit 1 and 0.0 doubtful
+-- The state has room for the largest grid. A cell's byte is one of these; of QPSK 1.0 is bit 0, -1.0 bit 1 and 0.0 doubtful
 pub state-room : stateBytes ≡ 2 + 4096 * symbols 0
+unfolding mode slotBits packetBits slots
 state-room = refl
 
-pub bytes-listed : passing 256 0 isCellByte ≡ 0 ∷ 1 ∷ 2 ∷ 3 ∷ 4 ∷ 5 ∷ 6 ∷ 7 ∷ 8 ∷ []
+pub bytes-listed : passing 256 0 (isCellByte 1) ≡ 0 ∷ 1 ∷ 2 ∷ 3 ∷ 4 ∷ 5 ∷ 6 ∷ 7 ∷ 8 ∷ []
 bytes-listed = refl
 
-pub bytes-made : cellByte (f32 0xBF80_0000) (f32 0x3F80_0000) ∷ cellByte (f32 0x3F80_0000) (f32 0xBF80_0000) ∷ cellByte (f32 0) (f32 0xBF80_0000)
-    ∷ cellByte (f32 0x3F80_0000) (f32 0) ∷ cellByte (f32 0) (f32 0) ∷ []
+pub more-bytes-listed : passing 256 0 (isCellByte 2) ≡ passing 25 0 (λ b. true)
+more-bytes-listed = refl
+
+abbrev one-byte : ℕ → ℕ → ℕ
+one-byte a b = cellByte 1 (f32 0x3F80_0000) (f32 a) (f32 b)
+
+pub bytes-made : one-byte 0xBF80_0000 0x3F80_0000 ∷ one-byte 0x3F80_0000 0xBF80_0000 ∷ one-byte 0 0xBF80_0000 ∷ one-byte 0x3F80_0000 0 ∷ one-byte 0 0 ∷ []
     ≡ 1 ∷ 3 ∷ 5 ∷ 6 ∷ 8 ∷ []
-unfolding decide ofBits lt
+unfolding decide signOf ofBits lt
 bytes-made = refl
 
--- The order of points, as 500 numbers of nine bits, has the check word that a program outside worked out from the sentence of Req 01
-pub places-checked : checkWord (λ i. bitOf 9 (row (firstOf 500 placeOf) (i / 9)) (i % 9)) 4500 ≡ 0x7C6D
-unfolding checkWord checkRegister checkStep placeOf nextKept counter
-places-checked = refl
+-- and of 16QAM at level 1.0: 3.0 and 1.0, -3.0 and -1.0, 1.0 and 3.0, 0.0 and -3.0, 2.0 and -2.0
+abbrev two-byte : ℕ → ℕ → ℕ
+two-byte a b = cellByte 2 (f32 0x3F80_0000) (f32 a) (f32 b)
 
--- 0 to 499 in another order: places and points stay below 500, and each of the two is the other's inverse
-pub places-inside : T (everyBelow 500 (λ i. ltb (placeOf i) 500))
-unfolding placeOf nextKept counter
-places-inside = tt
+pub more-bytes-made : two-byte 0x4040_0000 0x3F80_0000 ∷ two-byte 0xC040_0000 0xBF80_0000 ∷ two-byte 0x3F80_0000 0x4040_0000 ∷ two-byte 0 0xC040_0000
+    ∷ two-byte 0x4000_0000 0xC000_0000 ∷ []
+    ≡ 10 ∷ 16 ∷ 2 ∷ 9 ∷ 24 ∷ []
+unfolding decide signOf sizeOf twice ofBits lt mul neg
+more-bytes-made = refl
 
-pub points-inside : T (everyBelow 500 (λ i. ltb (pointAt i) 500))
-unfolding pointAt count
-points-inside = tt
+-- The order of points and its inverse as lists, so that each entry is worked out once
+abbrev pub order : List ℕ
+order = firstOf 500 placeOf
 
-pub points-of-places : T (everyBelow 500 (λ i. eqb (pointAt (placeOf i)) i))
-unfolding placeOf pointAt nextKept counter count
-points-of-places = tt
+abbrev pub back : List ℕ
+back = firstOf 500 pointAt
 
-pub places-of-points : T (everyBelow 500 (λ i. eqb (placeOf (pointAt i)) i))
-unfolding placeOf pointAt nextKept counter count
-places-of-points = tt
+-- both stay below 500, and each of the two is the other's inverse
+abbrev pub inverse : ℕ → Bool
+inverse i = ltb (row order i) 500 && (ltb (row back i) 500 && (eqb (row back (row order i)) i && eqb (row order (row back i)) i))
+
+-- As 500 numbers of nine bits the order has the check word that a program outside worked out from the sentence of Req 01, and it is 0 to 499 in another order
+pub places-checked : (checkWord (λ i. bitOf 9 (row order (i / 9)) (i % 9)) 4500 ≡ 0x7C6D) × T (everyBelow 500 inverse)
+unfolding checkWord checkRegister checkStep placeOf pointAt nextKept counter count
+places-checked = (refl, tt)

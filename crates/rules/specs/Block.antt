@@ -12,8 +12,9 @@ use Rattle.rules.specs.Packet.{checkWord}
 use Rattle.rules.specs.Outer.{encoded, Codeword, Agree, marked}
 use Rattle.rules.specs.Interleaver.{bitDeinterleaved}
 use Rattle.rules.specs.Turbo.{dataPlace}
-use Rattle.rules.specs.Slots.{rate, slotBits, packetBits, symbols, coded, blockBit, slotNumber, scrambling}
-use Rattle.rules.specs.Points.{zeroPart, pointOf, firstPart, secondPart, doubtful, decide}
+use Rattle.rules.specs.Modes.{rate, partBits, slotBits, packetBits, symbols}
+use Rattle.rules.specs.Slots.{coded, blockBit, slotNumber, scrambling}
+use Rattle.rules.specs.Points.{zeroPart, pointOf, firstPart, secondPart, doubtful, decide, bitIn}
 use Rattle.rules.specs.Cells.{carried, gridCell}
 use Rattle.rules.specs.Profile.{only, _or_, fault}
 use Rattle.rules.specs.Answers.{hasRead}
@@ -39,14 +40,14 @@ scrambler P t i = scrambling (row (P .seeds) t) (row (P .masks) (slotNumber t)) 
 unfoldable pub sentBit : Profile → List ℕ → ℕ → ℕ → ℕ
 sentBit P d t i = (blockBit (P .mode) (packet (P .k) d) (slotBits (P .mode) * t + i) + scrambler P t i) % 2
 
--- the cell that carries a point of the scrambled bits: bit 2i of slot t is s0 and bit 2i + 1 is s1 of its point i
-abbrev pub cellFor : Float → (ℕ → ℕ → ℕ) → Carried → Cell
-cellFor level bits Nothing = Silent
-cellFor level bits (PointOf t i) = Carries (pointOf level (bits t (2 * i)) (bits t (2 * i + 1)))
+-- the cell that carries a point of the scrambled bits: bits 2wi + j of slot t are s0, s1, .. of its point i, where a part has w bits
+abbrev pub cellFor : ℕ → Float → (ℕ → ℕ → ℕ) → Carried → Cell
+cellFor w level bits Nothing = Silent
+cellFor w level bits (PointOf t i) = Carries (pointOf w level (λ j. bits t (2 * w * i + j)))
 
 -- cell c of a symbol
 abbrev pub sentCell : Profile → List ℕ → ℕ → ℕ → Cell
-sentCell P d symbol c = cellFor (P .level) (sentBit P d) (carried (P .mode) symbol c)
+sentCell P d symbol c = cellFor (partBits (P .mode)) (P .level) (sentBit P d) (carried (P .mode) symbol c)
 
 -- n symbols from the given one on, as two lists
 pub record Cells (P : Profile) (d : List ℕ) (from n : ℕ) (firsts seconds : List Float) : Type 0 where
@@ -77,12 +78,15 @@ pub record SendSymbolRule (P : Profile) (d : List ℕ) (symbol : ℕ) (firsts se
 
 -- ---- deciding
 
+-- part n of a slot: an even one is the first of its point, an odd one the second
 abbrev pub partOf : ℕ → List Float → List Float → ℕ → Float
-partOf i firsts seconds at = pick (eqb (i % 2) 0) (getD firsts at zeroPart) (getD seconds at zeroPart)
+partOf n firsts seconds at = pick (eqb (n % 2) 0) (getD firsts at zeroPart) (getD seconds at zeroPart)
 
--- bit i of block slot t as its cell decides, still scrambled
-unfoldable pub heard : List Float → List Float → ℕ → ℕ → ℕ
-heard firsts seconds t i = decide (partOf i firsts seconds (gridCell t (i / 2)))
+-- bit i of block slot t as its cell decides, still scrambled: it is one of the w bits of part i / w
+unfoldable pub heard : Profile → List Float → List Float → ℕ → ℕ → ℕ
+heard P firsts seconds t i =
+    let w = partBits (P .mode) in
+    bitIn w (decide w (P .level) (partOf (i / w) firsts seconds (gridCell t (i / w / 2)))) (i % w)
 
 -- doubtful, or unscrambled
 abbrev pub unscrambled : ℕ → ℕ → ℕ
@@ -98,7 +102,7 @@ inBlock m bits g = bits (g / slotBits m) (g % slotBits m)
 
 -- bit g of the block
 unfoldable pub decided : Profile → List Float → List Float → ℕ → ℕ
-decided P firsts seconds = understood P (inBlock (P .mode) (heard firsts seconds))
+decided P firsts seconds = understood P (inBlock (P .mode) (heard P firsts seconds))
 
 -- packet p's part of the block's decided bits
 abbrev pub packetPart : ℕ → (ℕ → ℕ) → ℕ → ℕ → ℕ

@@ -4,7 +4,8 @@ use Prim.Native.Nat.{ℕ, _+_, _-_, _*_, _/_, _%_}
 use lib.Dec.{eqb, leb, ltb}
 use Rattle.rules.specs.Bits.{pick}
 use Rattle.rules.specs.Kept.{reversed, kept, count}
-use Rattle.rules.specs.Slots.{slots, symbolOf, slotNumber}
+use Rattle.rules.specs.Modes.{slots}
+use Rattle.rules.specs.Slots.{symbolOf, slotNumber}
 use Rattle.rules.specs.declared.Carried.{Carried}
 use Rattle.rules.specs.declared.Carried.the-variants.{Nothing, PointOf}
 

@@ -11,7 +11,8 @@ use lib.ListN.{length, getD, take, replicate}
 use Rattle.rules.specs.Bits.{row, differ}
 use Rattle.rules.specs.Packet.{packetBit}
 use Rattle.rules.specs.Outer.{marked}
-use Rattle.rules.specs.Slots.{slotBits, packetBits, slots, symbols, coded}
+use Rattle.rules.specs.Modes.{slotBits, packetBits, slots, symbols}
+use Rattle.rules.specs.Slots.{coded}
 use Rattle.rules.specs.Points.{zeroPart, doubtful}
 use Rattle.rules.specs.Profile.{fields, only, fault, inRange, Shape, Whole, reading, readAs, headed, spelt, written, writing, blank, largest}
 use Rattle.rules.specs.Answers.{isNumber, isAnswer, namesField, isReason, hasRead}
@@ -62,7 +63,7 @@ bitInPlace P e p i =
 -- what the cells of packet p decide to
 abbrev pub heardInPlace : Profile → List Float → List Float → ℕ → ℕ → ℕ
 heardInPlace P f s p i =
-    heard f s ((packetBits (P .mode) * p + i) / slotBits (P .mode)) ((packetBits (P .mode) * p + i) % slotBits (P .mode))
+    heard P f s ((packetBits (P .mode) * p + i) / slotBits (P .mode)) ((packetBits (P .mode) * p + i) % slotBits (P .mode))
 
 -- some packet, sent by the rules in the same place with the same profile, has the bits that its cells decide to, none doubtful
 abbrev pub SomePacket : Profile → List Float → List Float → ℕ → Type 0
@@ -123,7 +124,7 @@ pub record D2 : Type 0 where
   pub own-cells : (P : Profile) (marks : ℕ) (f s f' s' : List Float) (before after after' : List ℕ) (a a' : Receipt)
       → length f ≡ length f'
       → length s ≡ length s'
-      → ((t i : ℕ) → t < slots (P .mode) → i < slotBits (P .mode) → heard f s t i ≡ heard f' s' t i)
+      → ((t i : ℕ) → t < slots (P .mode) → i < slotBits (P .mode) → heard P f s t i ≡ heard P f' s' t i)
       → ReceiveRule P marks f s before after a
       → ReceiveRule P marks f' s' before after' a'
       → (a ≡ a') × (after ≡ after')

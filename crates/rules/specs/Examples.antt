@@ -1,8 +1,8 @@
 -- Document 01, "Bench examples", those marked P, and what document 02 names (Req 01 the places of points, Req 04 those of what is at fault in a profile,
--- Req 05 two grids side by side): what the rules give, and what the documents say.
+-- Req 05 two grids side by side, Req 06 the modes of 16QAM): what the rules give, and what the documents say.
 use mathlib.Core.Path.{_≡_}
 use mathlib.Core.List.{List, [], _∷_, _++_}
-use Prim.Native.Nat.{ℕ, zero, suc, _-_}
+use Prim.Native.Nat.{ℕ, zero, suc, _+_, _-_, _/_, _%_, _^_}
 use lib.Dec.{eqb}
 use lib.Ieee.{binary32, ofBits, toBits}
 use lib.ListN.{replicate}
@@ -11,8 +11,9 @@ use Rattle.rules.specs.Outer.{remainder}
 use Rattle.rules.specs.Kept.{counter}
 use Rattle.rules.specs.Interleaver.{tableD, address, bitInterleaved}
 use Rattle.rules.specs.Turbo.{y0}
+use Rattle.rules.specs.Modes.{isMode, partBits, slotBits, packetBits, slots, symbols}
 use Rattle.rules.specs.Slots.{scrambling, symbolOf, slotNumber}
-use Rattle.rules.specs.Points.{pointOf, decide}
+use Rattle.rules.specs.Points.{triple, pointOf, decide, bitIn}
 use Rattle.rules.specs.Cells.{placeOf, pointAt, cellOf}
 use Rattle.rules.specs.Profile.{fault, reading, written}
 use Rattle.rules.specs.Compare.{grids, differing, difference, filled, comparingNumber}
@@ -57,6 +58,33 @@ asBytes P = reading (written P) .number ∷ reading (written P) .place ∷ []
 abbrev pub twoOf : List (List ℕ)
 twoOf = (0 ∷ 0 ∷ 1 ∷ 2 ∷ 3 ∷ 4 ∷ []) ∷ (0 ∷ 1 ∷ 5 ∷ 6 ∷ 7 ∷ 8 ∷ []) ∷ []
 
+-- 16QAM at level 1.0, as source 000 writes it: 3A, A, -A and -3A, by their bits
+abbrev pub a3 : ℕ
+a3 = 0x4040_0000
+
+abbrev pub a1 : ℕ
+a1 = 0x3F80_0000
+
+abbrev pub n1 : ℕ
+n1 = 0xBF80_0000
+
+abbrev pub n3 : ℕ
+n3 = 0xC040_0000
+
+-- m_Q and m_I of the number that s3 s2 s1 s0 make
+abbrev pub mapped : ℕ → List ℕ
+mapped n =
+    let p = pointOf 2 (ofBits binary32 a1) (λ j. n / 2 ^ j % 2) in
+    toBits binary32 (p .second) ∷ toBits binary32 (p .first) ∷ []
+
+-- what a part of 16QAM, given by its bits, decides to at level 1.5, whose lines are at 3.0 and -3.0
+abbrev pub decided : ℕ → ℕ
+decided part = decide 2 (ofBits binary32 someLevel) (ofBits binary32 part)
+
+-- the largest level whose triple is finite, by its bits
+abbrev pub mostTripled : ℕ
+mostTripled = 0x7EAA_AAAA
+
 abbrev pub examples : List Example
 examples =
     -- P1 first encoder, 1 then zeros
@@ -84,13 +112,13 @@ examples =
     ∷ record { given = symbolOf 7 ∷ slotNumber 7 ∷ symbolOf 47 ∷ slotNumber 47 ∷ []; said = 1 ∷ 1 ∷ 6 ∷ 6 ∷ [] }
     -- P11 (s0, s1) = (1, 0) is (-D, D), by their bits
     ∷ record {
-      given = toBits binary32 (pointOf (ofBits binary32 someLevel) 1 0 .first)
-          ∷ toBits binary32 (pointOf (ofBits binary32 someLevel) 1 0 .second)
+      given = toBits binary32 (pointOf 1 (ofBits binary32 someLevel) (row (1 ∷ 0 ∷ [])) .first)
+          ∷ toBits binary32 (pointOf 1 (ofBits binary32 someLevel) (row (1 ∷ 0 ∷ [])) .second)
           ∷ [];
       said = 0xBFC0_0000 ∷ 0x3FC0_0000 ∷ [];
     }
     -- P12 part -0.0: doubtful
-    ∷ record { given = decide (ofBits binary32 0x8000_0000) ∷ []; said = 2 ∷ [] }
+    ∷ record { given = decide 1 (ofBits binary32 someLevel) (ofBits binary32 0x8000_0000) ∷ []; said = 2 ∷ [] }
     -- Req 01 the first kept places, and the points there
     ∷ record { given = firstOf 3 placeOf; said = 0 ∷ 256 ∷ 128 ∷ [] }
     ∷ record { given = pointAt 0 ∷ pointAt 256 ∷ pointAt 128 ∷ []; said = 0 ∷ 1 ∷ 2 ∷ [] }
@@ -98,12 +126,12 @@ examples =
     ∷ record { given = asValue (valueOf (onesBut 8 0 0) someLevel 0 14 (replicate 48 1)); said = 40 ∷ 3 ∷ [] }
     ∷ record { given = asBytes (valueOf (onesBut 8 3 0) someLevel 0 14 (replicate 48 1)); said = 40 ∷ 15 ∷ [] }
     ∷ record { given = asValue (valueOf (onesBut 8 7 0x10_0000) someLevel 0 14 (replicate 48 1)); said = 40 ∷ 31 ∷ [] }
-    ∷ record { given = asValue (valueOf (1 ∷ 1 ∷ 0 ∷ 0 ∷ 1 ∷ 1 ∷ 1 ∷ 0 ∷ []) 0 2 9 (replicate 48 0)); said = 40 ∷ 11 ∷ [] }
+    ∷ record { given = asValue (valueOf (1 ∷ 1 ∷ 0 ∷ 0 ∷ 1 ∷ 1 ∷ 1 ∷ 0 ∷ []) 0 5 9 (replicate 48 0)); said = 40 ∷ 11 ∷ [] }
     -- Req 04 level, mode and K, each at fault with what is tested after it
-    ∷ record { given = asValue (valueOf (replicate 8 1) 0 2 9 (replicate 48 0)); said = 41 ∷ 38 ∷ [] }
+    ∷ record { given = asValue (valueOf (replicate 8 1) 0 5 9 (replicate 48 0)); said = 41 ∷ 38 ∷ [] }
     ∷ record { given = asBytes (valueOf (replicate 8 1) 0x7F80_0000 1 8 (replicate 48 1)); said = 41 ∷ 38 ∷ [] }
-    ∷ record { given = asValue (valueOf (replicate 8 1) someLevel 2 9 (replicate 48 0)); said = 42 ∷ 45 ∷ [] }
-    ∷ record { given = asBytes (valueOf (replicate 8 1) someLevel 2 12 (replicate 48 1)); said = 42 ∷ 45 ∷ [] }
+    ∷ record { given = asValue (valueOf (replicate 8 1) someLevel 5 9 (replicate 48 0)); said = 42 ∷ 45 ∷ [] }
+    ∷ record { given = asBytes (valueOf (replicate 8 1) someLevel 5 12 (replicate 48 1)); said = 42 ∷ 45 ∷ [] }
     ∷ record { given = asValue (valueOf (replicate 8 1) someLevel 1 9 (replicate 48 0)); said = 43 ∷ 49 ∷ [] }
     ∷ record { given = asBytes (valueOf (replicate 8 1) someLevel 0 13 (replicate 48 1)); said = 43 ∷ 49 ∷ [] }
     -- Req 04 a faulty seed, the first, one in the middle and the last of both modes; an unused one, the first and the last
@@ -149,4 +177,44 @@ examples =
       given = comparingNumber 1 0 0 0 ∷ comparingNumber 0 1 0 0 ∷ comparingNumber 0 0 4096 0 ∷ comparingNumber 3 3 3 2 ∷ [];
       said = 18 ∷ 18 ∷ 18 ∷ 18 ∷ [];
     }
+    -- Req 06 the figures of modes 0 to 4: bits a slot and a packet, slots and seeds, symbols; a number that is no mode counts as 1
+    ∷ record { given = firstOf 5 slotBits; said = 1000 ∷ 1000 ∷ 2000 ∷ 2000 ∷ 2000 ∷ [] }
+    ∷ record { given = firstOf 5 packetBits; said = 3000 ∷ 2000 ∷ 3000 ∷ 2000 ∷ 1500 ∷ [] }
+    ∷ record { given = firstOf 5 slots; said = 48 ∷ 32 ∷ 24 ∷ 16 ∷ 12 ∷ [] }
+    ∷ record { given = firstOf 5 symbols; said = 7 ∷ 5 ∷ 4 ∷ 3 ∷ 2 ∷ [] }
+    ∷ record { given = firstOf 5 partBits; said = 1 ∷ 1 ∷ 2 ∷ 2 ∷ 2 ∷ [] }
+    ∷ record { given = passing 256 0 isMode; said = 0 ∷ 1 ∷ 2 ∷ 3 ∷ 4 ∷ [] }
+    ∷ record { given = partBits 5 ∷ slotBits 5 ∷ packetBits 5 ∷ slots 5 ∷ slots 255 ∷ []; said = 1 ∷ 1000 ∷ 2000 ∷ 32 ∷ 32 ∷ [] }
+    -- Req 06 source 000, table 3.2.6.20.7.2-1, four rows at a time, in its order
+    ∷ record { given = mapped 0b0000 ++ mapped 0b0001 ++ mapped 0b0011 ++ mapped 0b0010; said = a3 ∷ a3 ∷ a3 ∷ a1 ∷ a3 ∷ n1 ∷ a3 ∷ n3 ∷ [] }
+    ∷ record { given = mapped 0b0100 ++ mapped 0b0101 ++ mapped 0b0111 ++ mapped 0b0110; said = a1 ∷ a3 ∷ a1 ∷ a1 ∷ a1 ∷ n1 ∷ a1 ∷ n3 ∷ [] }
+    ∷ record { given = mapped 0b1100 ++ mapped 0b1101 ++ mapped 0b1111 ++ mapped 0b1110; said = n1 ∷ a3 ∷ n1 ∷ a1 ∷ n1 ∷ n1 ∷ n1 ∷ n3 ∷ [] }
+    ∷ record { given = mapped 0b1000 ++ mapped 0b1001 ++ mapped 0b1011 ++ mapped 0b1010; said = n3 ∷ a3 ∷ n3 ∷ a1 ∷ n3 ∷ n1 ∷ n3 ∷ n3 ∷ [] }
+    -- Req 06 the outer level is rounded once, to even at a tie; that of the largest level with a finite triple, and of the next one
+    ∷ record {
+      given = toBits binary32 (triple (ofBits binary32 0x3F80_0001))
+          ∷ toBits binary32 (triple (ofBits binary32 mostTripled))
+          ∷ toBits binary32 (triple (ofBits binary32 (mostTripled + 1)))
+          ∷ [];
+      said = 0x4040_0002 ∷ 0x7F7F_FFFF ∷ 0x7F80_0000 ∷ [];
+    }
+    -- Req 06 a part on a line, one f32 step below it and one above, at 3.0, -3.0 and zero; -0.0, NaN, the infinities
+    ∷ record { given = decided 0x4040_0000 ∷ decided 0x403F_FFFF ∷ decided 0x4040_0001 ∷ []; said = 4 ∷ 2 ∷ 0 ∷ [] }
+    ∷ record { given = decided 0xC040_0000 ∷ decided 0xC040_0001 ∷ decided 0xC03F_FFFF ∷ []; said = 4 ∷ 1 ∷ 3 ∷ [] }
+    ∷ record { given = decided 0 ∷ decided 0x8000_0001 ∷ decided 0x0000_0001 ∷ decided 0x8000_0000 ∷ []; said = 4 ∷ 3 ∷ 2 ∷ 4 ∷ [] }
+    ∷ record { given = decided 0x7FC0_0000 ∷ decided 0x7F80_0000 ∷ decided 0xFF80_0000 ∷ []; said = 4 ∷ 0 ∷ 1 ∷ [] }
+    -- Req 06 bits s0 and s1 of such a decision: outer above, outer below, inner above, inner below, doubtful
+    ∷ record { given = bitIn 2 0 0 ∷ bitIn 2 0 1 ∷ bitIn 2 1 0 ∷ bitIn 2 1 1 ∷ []; said = 0 ∷ 0 ∷ 0 ∷ 1 ∷ [] }
+    ∷ record { given = bitIn 2 2 0 ∷ bitIn 2 2 1 ∷ bitIn 2 3 0 ∷ bitIn 2 3 1 ∷ bitIn 2 4 0 ∷ bitIn 2 4 1 ∷ []; said = 1 ∷ 0 ∷ 1 ∷ 1 ∷ 2 ∷ 2 ∷ [] }
+    -- Req 06 the largest level with a finite triple in a mode of 16QAM; the next one is 41 there, before K's 43 and after the mode's 42, and none in QPSK
+    ∷ record { given = asBytes (valueOf (replicate 8 1) mostTripled 4 14 (replicate 12 1 ++ replicate 36 0)); said = 0 ∷ 0 ∷ [] }
+    ∷ record { given = asBytes (valueOf (replicate 8 1) (mostTripled + 1) 2 9 (replicate 24 1 ++ replicate 24 0)); said = 41 ∷ 38 ∷ [] }
+    ∷ record { given = asValue (valueOf (replicate 8 1) (mostTripled + 1) 3 14 (replicate 48 0)); said = 41 ∷ 38 ∷ [] }
+    ∷ record { given = asValue (valueOf (replicate 8 1) (mostTripled + 1) 5 14 (replicate 48 0)); said = 42 ∷ 45 ∷ [] }
+    ∷ record { given = asBytes (valueOf (replicate 8 1) 0x7F7F_FFFF 1 8 (replicate 32 1 ++ replicate 16 0)); said = 0 ∷ 0 ∷ [] }
+    -- Req 06 the last seed in use and the first that is not, of modes 2 to 4
+    ∷ record { given = asBytes (valueOf (replicate 8 1) someLevel 2 14 (onesBut 48 23 0)); said = 44 ∷ 145 ∷ [] }
+    ∷ record { given = asValue (valueOf (replicate 8 1) someLevel 3 14 (replicate 48 1)); said = 44 ∷ 117 ∷ [] }
+    ∷ record { given = asBytes (valueOf (replicate 8 1) someLevel 4 14 (onesBut 48 11 0)); said = 44 ∷ 97 ∷ [] }
+    ∷ record { given = asValue (valueOf (replicate 8 1) someLevel 4 14 (replicate 48 1)); said = 44 ∷ 101 ∷ [] }
     ∷ []

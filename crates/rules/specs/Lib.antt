@@ -5,6 +5,7 @@ pub mod Outer
 pub mod Kept
 pub mod Interleaver
 pub mod Turbo
+pub mod Modes
 pub mod Slots
 pub mod Points
 pub mod Cells

@@ -1,6 +1,6 @@
 -- Document 01, "Profile", and document 02, Req 04: the fields as a table that reading, writing and finding what is at fault in a value walk.
 use mathlib.Core.Path.{_≡_}
-use mathlib.Core.Bool.{Bool, not, _&&_}
+use mathlib.Core.Bool.{Bool, not, _&&_, _||_}
 use mathlib.Core.List.{List, [], _∷_, _++_}
 use Prim.Native.Nat.{ℕ, zero, suc, _+_, _-_, _*_, _/_, _%_, _^_, _<_, _≤_}
 use lib.Dec.{T, eqb, leb, ltb}
@@ -8,8 +8,8 @@ use lib.Ieee.{Float, binary32, ofBits, toBits, le, fits}
 use lib.ListN.{length, take, drop, replicate}
 use Rattle.rules.specs.Bits.{pick, row}
 use Rattle.rules.specs.Outer.{isK}
-use Rattle.rules.specs.Slots.{isMode, slots}
-use Rattle.rules.specs.Points.{zeroPart}
+use Rattle.rules.specs.Modes.{isMode, partBits, slots}
+use Rattle.rules.specs.Points.{zeroPart, triple}
 use Rattle.rules.specs.declared.Answer.{Answer}
 use Rattle.rules.specs.declared.Profile.{Profile}
 use Rattle.rules.specs.declared.Reading.{Reading}
@@ -43,6 +43,14 @@ in20 x = ltb 0 x && ltb x (2 ^ 20)
 abbrev pub isLevel : Float → Bool
 isLevel a = le (ofBits binary32 0x0080_0000) a && le a (ofBits binary32 0x7F7F_FFFF)
 
+-- 16QAM's outer level is finite (Req 06)
+abbrev pub hasTriple : Float → Bool
+hasTriple a = le (triple a) (ofBits binary32 0x7F7F_FFFF)
+
+-- a level that a mode can send: QPSK any, 16QAM one whose triple is finite
+abbrev pub sends : ℕ → Float → Bool
+sends m level = eqb (partBits m) 1 || hasTriple level
+
 -- one number of a field's value: how many bytes it has, and whether it is in its range
 pub record Tested : Type 0 where
   pub size : ℕ
@@ -56,17 +64,38 @@ abbrev pub each : ℕ → (ℕ → Bool) → List ℕ → List Tested
 each size f [] = []
 each size f (x ∷ xs) = record { size = size; good = f x } ∷ each size f xs
 
+-- ---- answers
+
+-- a number that names no field: the place is zero
+abbrev pub only : ℕ → Answer
+only n = record { number = n; place = 0 }
+
+-- the first of two answers, unless its number is 0
+infixr 20 _or_
+abbrev pub _or_ : Answer → Answer → Answer
+a or b = pick (eqb (a .number) 0) b a
+
 -- ---- the fields
 
 -- a tag; the number that refuses a value out of its range; the length due after what was read before the field; the profile with the value that stands in some
--- bytes; the numbers of that value in the order of their bytes, each with its size and whether it is in its range; the bytes
+-- bytes; the numbers of that value in the order of their bytes, each with its size and whether it is in its range; what the value then finds at fault in a field
+-- before it; the bytes
 pub record Field : Type 0 where
   pub tag : ℕ
   pub refusal : ℕ
   pub due : Profile → ℕ
   pub with : Profile → List ℕ → Profile
   pub tested : Profile → List Tested
+  pub also : Profile → Answer
   pub bytes : Profile → List ℕ
+
+-- nothing
+abbrev pub noMore : Profile → Answer
+noMore p = only 0
+
+-- the mode cannot send the level: refused as the level is, with the level's own place
+abbrev pub levelInMode : Profile → Answer
+levelInMode p = pick (sends (p .mode) (p .level)) (only 0) (record { number = 41; place = 38 })
 
 abbrev pub fields : List Field
 fields =
@@ -76,6 +105,7 @@ fields =
       due = λ p. 32;
       with = λ p s. record { masks = words 8 s; level = p .level; mode = p .mode; k = p .k; seeds = p .seeds };
       tested = λ p. each 4 in20 (p .masks);
+      also = noMore;
       bytes = λ p. allBytes (p .masks);
     }
     ∷ record {
@@ -84,6 +114,7 @@ fields =
       due = λ p. 4;
       with = λ p s. record { masks = p .masks; level = ofBits binary32 (number s); mode = p .mode; k = p .k; seeds = p .seeds };
       tested = λ p. one 4 (isLevel (p .level));
+      also = noMore;
       bytes = λ p. wordBytes (toBits binary32 (p .level));
     }
     ∷ record {
@@ -92,6 +123,7 @@ fields =
       due = λ p. 1;
       with = λ p s. record { masks = p .masks; level = p .level; mode = number s; k = p .k; seeds = p .seeds };
       tested = λ p. one 1 (isMode (p .mode));
+      also = levelInMode;
       bytes = λ p. p .mode ∷ [];
     }
     ∷ record {
@@ -100,6 +132,7 @@ fields =
       due = λ p. 1;
       with = λ p s. record { masks = p .masks; level = p .level; mode = p .mode; k = number s; seeds = p .seeds };
       tested = λ p. one 1 (isK (p .k));
+      also = noMore;
       bytes = λ p. p .k ∷ [];
     }
     ∷ record {
@@ -116,6 +149,7 @@ fields =
           };
       -- as many as there are slots; an unused one is zero
       tested = λ p. each 4 in20 (take (slots (p .mode)) (p .seeds)) ++ each 4 (eqb 0) (drop (slots (p .mode)) (p .seeds));
+      also = noMore;
       bytes = λ p. allBytes (take (slots (p .mode)) (p .seeds));
     }
     ∷ []
@@ -140,15 +174,6 @@ pub record Whole (P : Profile) : Type 0 where
 
 -- ---- what is at fault
 
--- a number that names no field: the place is zero
-abbrev pub only : ℕ → Answer
-only n = record { number = n; place = 0 }
-
--- the first of two answers, unless its number is 0
-infixr 20 _or_
-abbrev pub _or_ : Answer → Answer → Answer
-a or b = pick (eqb (a .number) 0) b a
-
 -- the first number that is out of its range, among those that begin at a byte: the answer n with the byte where it begins; 0 where there is none
 abbrev pub faulty : ℕ → ℕ → List Tested → Answer
 faulty n at [] = only 0
@@ -156,7 +181,7 @@ faulty n at (x ∷ xs) = pick (x .good) (faulty n (at + x .size) xs) (record { n
 
 -- what a field finds at fault in a profile, where the field's header begins at a byte and its value three bytes after
 abbrev pub faultOf : Field → ℕ → Profile → Answer
-faultOf f at p = faulty (f .refusal) (at + 3) (f .tested p)
+faultOf f at p = faulty (f .refusal) (at + 3) (f .tested p) or f .also p
 
 -- tested in tag order, the places counted as if the profile had been written out
 abbrev pub faultFrom : List Field → ℕ → Profile → Answer

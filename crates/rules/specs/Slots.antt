@@ -1,40 +1,12 @@
--- Document 01, "Slots, scrambling, points": modes, the bits of a block, slots and scrambling. A block is 16 packets, each a row of 122 bytes.
-use mathlib.Core.Bool.{Bool}
+-- Document 01, "Slots, scrambling, points": the bits of a block, slots and scrambling. A block is 16 packets, each a row of 122 bytes.
 use Prim.Native.Nat.{ℕ, zero, suc, _+_, _*_, _/_, _%_, _^_, min}
-use lib.Dec.{eqb, ltb}
-use Rattle.rules.specs.Bits.{pick, row}
+use Rattle.rules.specs.Bits.{row}
 use Rattle.rules.specs.Packet.{packetBit}
 use Rattle.rules.specs.Interleaver.{tableD, interleaved, bitInterleaved}
-use Rattle.rules.specs.Turbo.{Rate, half, third, codedBit}
-
--- ---- the mode: 0 is QPSK rate 1/3, three slots a packet; 1 is QPSK rate 1/2, two slots a packet
-
-abbrev pub isMode : ℕ → Bool
-isMode m = ltb m 2
-
-abbrev pub rate : ℕ → Rate
-rate m = pick (eqb m 0) third half
-
-abbrev pub slotBits : ℕ → ℕ
-slotBits m = 1000
-
--- how many bits a packet has in the slots
-abbrev pub packetBits : ℕ → ℕ
-packetBits m = pick (eqb m 0) 3000 2000
-
--- how many slots a block has: 48 or 32
-abbrev pub slots : ℕ → ℕ
-slots m = 16 * packetBits m / slotBits m
-
--- how many symbols a grid has: 7 or 5
-abbrev pub symbols : ℕ → ℕ
-symbols m = (slots m + 6) / 7
+use Rattle.rules.specs.Turbo.{entered, codedBit}
+use Rattle.rules.specs.Modes.{rate, packetBits}
 
 -- ---- the bits of a packet, coded and interleaved
-
--- the 6 tail zeros are dropped, 994 bits enter
-abbrev pub entered : ℕ
-entered = 994
 
 -- the interleaved row that the second encoder reads
 abbrev pub second : (ℕ → ℕ) → ℕ → ℕ
@@ -44,7 +16,7 @@ second x i = x (interleaved 5 (row tableD) entered i)
 unfoldable pub coded : ℕ → (ℕ → ℕ) → ℕ → ℕ
 coded m x i = codedBit (rate m) x (second x) entered (bitInterleaved (packetBits m) i)
 
--- bit g of a block: packets follow one another through the slots, so packet p's n slots are slots pn to pn + n - 1
+-- bit g of a block: packets follow one another through the slots without gaps, so a packet of 16QAM may begin inside a slot
 abbrev pub blockBit : ℕ → (ℕ → ℕ → ℕ) → ℕ → ℕ
 blockBit m packets g = coded m (packetBit (packets (g / packetBits m))) (g % packetBits m)
 

@@ -1,9 +1,15 @@
 -- Document 01, "Turbo code": both encoders, and which of their outputs are sent at each rate. x is a row of `len` bits, x' the same interleaved.
 use mathlib.Core.List.{List, [], _∷_}
 use Prim.Native.Nat.{ℕ, zero, suc, _+_, _-_, _*_, _/_, _%_}
-use lib.Dec.{ltb}
+use lib.Dec.{eqb, ltb}
 use lib.ListN.{length, getD}
 use Rattle.rules.specs.Bits.{pick}
+use Rattle.rules.specs.declared.Rate.{Rate}
+use Rattle.rules.specs.declared.Rate.the-variants.{Half, Third, TwoThirds}
+
+-- the 6 tail zeros are dropped, 994 bits enter
+abbrev pub entered : ℕ
+entered = 994
 
 -- ---- one encoder. The register holds three bits: s / 4 is D, s / 2 % 2 is D^2 and s % 2 is D^3
 
@@ -37,9 +43,6 @@ ending x len (suc i) = shift 0 (ending x len i)
 
 -- ---- what is sent
 
-pub data Rate : Type 0 where
-  half third : Rate
-
 pub data Output : Type 0 where
   X Y0 X' Y'0 : Output
 
@@ -47,23 +50,28 @@ pub data Output : Type 0 where
 pub data Sent : Type 0 where
   at : Output → ℕ → Sent
 
--- Data output: rate 1/2, per two bits, X Y0 then X Y'0; rate 1/3, per bit, X Y0 Y'0
+-- Data output: rate 1/2, per two bits, X Y0 then X Y'0; rate 1/3, per bit, X Y0 Y'0; rate 2/3 (Req 06, source 000), per four bits, X Y0, X, X, X Y'0
 abbrev pub period : Rate → ℕ
-period half = 2
-period third = 1
+period Half = 2
+period Third = 1
+period TwoThirds = 4
 
 abbrev pub pattern : Rate → List Sent
-pattern half = at X 0 ∷ at Y0 0 ∷ at X 1 ∷ at Y'0 1 ∷ []
-pattern third = at X 0 ∷ at Y0 0 ∷ at Y'0 0 ∷ []
+pattern Half = at X 0 ∷ at Y0 0 ∷ at X 1 ∷ at Y'0 1 ∷ []
+pattern Third = at X 0 ∷ at Y0 0 ∷ at Y'0 0 ∷ []
+pattern TwoThirds = at X 0 ∷ at Y0 0 ∷ at X 1 ∷ at X 2 ∷ at X 3 ∷ at Y'0 3 ∷ []
 
--- Ends: rate 1/2 sends X Y0 three times, then X' Y'0 three times; rate 1/3 sends X X Y0, then X' X' Y'0
+-- Ends: rate 1/2 sends X Y0 three times, then X' Y'0 three times; rate 1/3 sends X X Y0, then X' X' Y'0; rate 2/3 sends X Y0, X, X Y0, then X', X' Y'0, X'
 abbrev pub tail : Rate → List Sent
-tail half =
+tail Half =
     at X 0 ∷ at Y0 0 ∷ at X 1 ∷ at Y0 1 ∷ at X 2 ∷ at Y0 2
     ∷ at X' 0 ∷ at Y'0 0 ∷ at X' 1 ∷ at Y'0 1 ∷ at X' 2 ∷ at Y'0 2 ∷ []
-tail third =
+tail Third =
     at X 0 ∷ at X 0 ∷ at Y0 0 ∷ at X 1 ∷ at X 1 ∷ at Y0 1 ∷ at X 2 ∷ at X 2 ∷ at Y0 2
     ∷ at X' 0 ∷ at X' 0 ∷ at Y'0 0 ∷ at X' 1 ∷ at X' 1 ∷ at Y'0 1 ∷ at X' 2 ∷ at X' 2 ∷ at Y'0 2 ∷ []
+tail TwoThirds =
+    at X 0 ∷ at Y0 0 ∷ at X 1 ∷ at X 2 ∷ at Y0 2
+    ∷ at X' 0 ∷ at X' 1 ∷ at Y'0 1 ∷ at X' 2 ∷ []
 
 -- an output in the pattern that begins at bit i
 abbrev pub dataOutput : (ℕ → ℕ) → (ℕ → ℕ) → ℕ → Sent → ℕ
@@ -79,9 +87,14 @@ tailOutput x x' len (at Y0 k) = parityOf 0 (ending x len k)
 tailOutput x x' len (at X' k) = feedback (ending x' len k)
 tailOutput x x' len (at Y'0 k) = parityOf 0 (ending x' len k)
 
--- how many bits the data output has, and all that is sent
+-- how many outputs of a pattern its first n bits have
+abbrev pub outputsOf : ℕ → List Sent → ℕ
+outputsOf n [] = 0
+outputsOf n (at o k ∷ l) = pick (ltb k n) 1 0 + outputsOf n l
+
+-- how many bits the data output has: whole patterns, and the last one is used for the bits that are left only (2 of 994 at rate 2/3); and all that is sent
 abbrev pub dataLength : Rate → ℕ → ℕ
-dataLength R len = len * length (pattern R) / period R
+dataLength R len = len / period R * length (pattern R) + outputsOf (len % period R) (pattern R)
 
 abbrev pub codedLength : Rate → ℕ → ℕ
 codedLength R len = dataLength R len + length (tail R)
@@ -95,5 +108,6 @@ codedBit R x x' len n =
 
 -- where bit i of x itself stands in what is sent
 abbrev pub dataPlace : Rate → ℕ → ℕ
-dataPlace half i = 2 * i
-dataPlace third i = 3 * i
+dataPlace Half i = 2 * i
+dataPlace Third i = 3 * i
+dataPlace TwoThirds i = 6 * (i / 4) + pick (eqb (i % 4) 0) 0 (i % 4 + 1)

@@ -1,5 +1,12 @@
 // Document 01's declared types. What they mean is in specs/, which a reader has to believe; there is no code here.
 
+// The rates of the turbo code.
+pub enum Rate {
+    Half,
+    Third,
+    TwoThirds,
+}
+
 // An in-phase part and a quadrature part.
 pub struct Point {
     pub first: f32,
