@@ -1,9 +1,11 @@
 pub mod Holds
+pub mod Levels
 pub mod Rows
 pub mod Every
 pub mod Filled
 pub mod Lists
 pub mod Bytes
 pub mod Parts
+pub mod Points
 pub mod Mask
 pub mod Run
