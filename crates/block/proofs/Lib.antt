@@ -1,4 +1,2 @@
-pub mod Ranges
-pub mod Sizes
 pub mod Passed
 pub mod Scrambling

@@ -1,50 +1,56 @@
--- A turn of the loop that scrambles a block's slots one after the other.
+-- A turn of the loop that scrambles a block's slots, of b bits each, one after the other.
 use mathlib.Core.Path.{_≡_, sym, _∙_, ap₂}
 use mathlib.Core.List.{List}
 use Prim.Native.Nat.{ℕ, _+_, _*_, _/_, _%_, _<_, _≤_}
+use native.Mathlib.Nat.{mul-zero}
 use native.Mathlib.Omega.{arith}
 use lib.ListN.{length}
 use Rattle.rules.specs.Bits.{row}
 use Rattle.rules.specs.Slots.{slotNumber, scrambling}
 use Rattle.rules.specs.Block.{unscrambled}
 use Rattle.laws.specs.Holds.{Holds}
-use Rattle.laws.specs.Filled.{upTo, upTo-below, upTo-from}
+use Rattle.laws.specs.Filled.{upTo, upTo-below, upTo-from, holds-first}
 use Rattle.laws.specs.Parts.{part, putPart, part-number, part-place, part-long, part-at, holds-part}
 use Rattle.block.specs.Steps.{scrambledRow}
 
-module _ (seeds masks : List ℕ) (f : ℕ → ℕ) where
+module _ (b : ℕ) (seeds masks : List ℕ) (f : ℕ → ℕ) where
   -- bit g, scrambled
   abbrev made : ℕ → ℕ
-  made g = unscrambled (f g) (scrambling (row seeds (g / 1000)) (row masks (slotNumber (g / 1000))) (g % 1000))
+  made g = unscrambled (f g) (scrambling (row seeds (g / b)) (row masks (slotNumber (g / b))) (g % b))
 
   -- bit i of a list, scrambled as slot t's
   abbrev own : ℕ → List ℕ → ℕ → ℕ
   own t l i = unscrambled (row l i) (scrambling (row seeds t) (row masks (slotNumber t)) i)
 
+  -- before the first slot
+  pub scrambled-none : (l : List ℕ) → Holds 0 48000 f l → Holds 0 48000 (scrambledRow b seeds masks (b * 0) f) l
+  scrambled-none l h = rw (mul-zero b) (holds-first made f 0 h)
+
   -- slot t's part is scrambled by the slot's own seed and mask
   pub scrambled-turn : (out y : List ℕ) (t to : ℕ)
-      → to ≡ 1000 * t + 1000
+      → b ≤ 2000
+      → to ≡ b * t + b
       → to ≤ 48000
-      → (let l = part (1000 * t) to out in Holds 0 (length l) (upTo 1000 (own t l) (row l)) y)
-      → Holds 0 48000 (scrambledRow seeds masks (1000 * t) f) out
-      → Holds 0 48000 (scrambledRow seeds masks (1000 * (t + 1)) f) (putPart (1000 * t) to out y)
-  scrambled-turn out y t to end room left h =
-      holds-part 0 made f 1000 t to y end room (left .long ∙ long)
-      (λ k lt. left .each k (omega (arith, long)) ∙ upTo-below (own t l) (row l) 1000 k lt ∙ ap₂ unscrambled (stands k lt) (sym (adds k lt))) h
+      → (let l = part (b * t) to out in Holds 0 (length l) (upTo 2000 (own t l) (row l)) y)
+      → Holds 0 48000 (scrambledRow b seeds masks (b * t) f) out
+      → Holds 0 48000 (scrambledRow b seeds masks (b * (t + 1)) f) (putPart (b * t) to out y)
+  scrambled-turn out y t to small end room left h =
+      holds-part 0 made f b t to y end room (left .long ∙ long)
+      (λ k lt. left .each k (omega (arith, long)) ∙ upTo-below (own t l) (row l) 2000 k (omega arith) ∙ ap₂ unscrambled (stands k lt) (sym (adds k lt))) h
     where
       l : List ℕ
-      l = part (1000 * t) to out
+      l = part (b * t) to out
 
-      long : length l ≡ 1000
-      long = part-long (1000 * t) to out (omega arith) (omega (arith, h .long)) ∙ omega arith
+      long : length l ≡ b
+      long = part-long (b * t) to out (omega arith) (omega (arith, h .long)) ∙ omega arith
 
-      stands : (k : ℕ) → k < 1000 → row l k ≡ f (1000 * t + k)
+      stands : (k : ℕ) → k < b → row l k ≡ f (b * t + k)
       stands k lt =
-          part-at (1000 * t) to out (omega arith) (omega (arith, h .long)) k 0 (omega arith)
-          ∙ h .each (1000 * t + k) (omega arith) ∙ upTo-from made f (1000 * t) (1000 * t + k) (omega arith)
+          part-at (b * t) to out (omega arith) (omega (arith, h .long)) k 0 (omega arith)
+          ∙ h .each (b * t + k) (omega arith) ∙ upTo-from made f (b * t) (b * t + k) (omega arith)
 
-      adds : (k : ℕ) → k < 1000
-          → scrambling (row seeds ((1000 * t + k) / 1000)) (row masks (slotNumber ((1000 * t + k) / 1000))) ((1000 * t + k) % 1000)
+      adds : (k : ℕ) → k < b
+          → scrambling (row seeds ((b * t + k) / b)) (row masks (slotNumber ((b * t + k) / b))) ((b * t + k) % b)
           ≡ scrambling (row seeds t) (row masks (slotNumber t)) k
       adds k lt =
-          ap₂ (λ (q i : ℕ). scrambling (row seeds q) (row masks (slotNumber q)) i) (part-number 1000 t k lt) (part-place 1000 t k lt)
+          ap₂ (λ (q i : ℕ). scrambling (row seeds q) (row masks (slotNumber q)) i) (part-number b t k lt) (part-place b t k lt)

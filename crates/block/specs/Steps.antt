@@ -6,7 +6,7 @@ use Rattle.rules.specs.Slots.{slotNumber, scrambling}
 use Rattle.rules.specs.Block.{unscrambled}
 use Rattle.laws.specs.Filled.{upTo}
 
--- bits of which the first n are scrambled
-abbrev pub scrambledRow : List ℕ → List ℕ → ℕ → (ℕ → ℕ) → ℕ → ℕ
-scrambledRow seeds masks n f =
-    upTo n (λ g. unscrambled (f g) (scrambling (row seeds (g / 1000)) (row masks (slotNumber (g / 1000))) (g % 1000))) f
+-- bits of which the first n are scrambled, in slots of b bits
+abbrev pub scrambledRow : ℕ → List ℕ → List ℕ → ℕ → (ℕ → ℕ) → ℕ → ℕ
+scrambledRow b seeds masks n f =
+    upTo n (λ g. unscrambled (f g) (scrambling (row seeds (g / b)) (row masks (slotNumber (g / b))) (g % b))) f

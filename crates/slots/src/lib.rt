@@ -1,6 +1,6 @@
 // Scrambling of a slot's bits. A bit is a byte that is 0 or 1; 2 is a doubtful one.
 ghost use mathlib.Core.Path.{_≡_};
-ghost use Prim.Native.Nat.{_<_, _%_, _^_, min};
+ghost use Prim.Native.Nat.{ℕ, _<_, _≤_, _%_, _^_, min};
 ghost use lib.ListN.{length};
 ghost use Rattle.rules.specs.Bits.{row};
 ghost use Rattle.rules.specs.Slots.{scramblerStep, both, scrambling};
@@ -25,11 +25,11 @@ fn output(state: u32, mask: u32) -> u8
 }
 
 // The first 20 of the scrambler's outputs, by the register; then zeros.
-fn first_outputs(seed: u32, mask: u32) -> [u8; 1000]
+fn first_outputs(seed: u32, mask: u32) -> [u8; 2000]
     requires { ⌜ seed < 2 ^ 20 ⌝ }
-    ensures { λ r. ⌜ Holds 0 1000 (upTo 20 (scrambling seed mask) (λ k. 0)) r ⌝ }
+    ensures { λ r. ⌜ Holds 0 2000 (upTo 20 (scrambling seed mask) (λ k. 0)) r ⌝ }
 {
-    let mut out = [0u8; 1000];
+    let mut out = [0u8; 2000];
     let mut state = seed;
     for i in 0..20 {
         out[i] = output(state, mask);
@@ -39,9 +39,9 @@ fn first_outputs(seed: u32, mask: u32) -> [u8; 1000]
 }
 
 // The first 80. By h = D^20 + D^17 + 1 each is the sum of those 20 and 17 before it, whatever the mask.
-fn early_outputs(seed: u32, mask: u32) -> [u8; 1000]
+fn early_outputs(seed: u32, mask: u32) -> [u8; 2000]
     requires { ⌜ seed < 2 ^ 20 ⌝ }
-    ensures { λ r. ⌜ Holds 0 1000 (upTo 80 (scrambling seed mask) (λ k. 0)) r ⌝ }
+    ensures { λ r. ⌜ Holds 0 2000 (upTo 80 (scrambling seed mask) (λ k. 0)) r ⌝ }
 {
     let mut out = first_outputs(seed, mask);
     for i in 20..80 {
@@ -50,13 +50,13 @@ fn early_outputs(seed: u32, mask: u32) -> [u8; 1000]
     out
 }
 
-// Those for all bits of a slot. By h^4 = D^80 + D^68 + 1 each is the sum of those 80 and 68 before it, so far back that many are made at once.
-fn outputs(seed: u32, mask: u32) -> [u8; 1000]
-    requires { ⌜ seed < 2 ^ 20 ⌝ }
-    ensures { λ r. ⌜ Holds 0 1000 (scrambling seed mask) r ⌝ }
+// Those for the first n bits of a slot. By h^4 = D^80 + D^68 + 1 each is the sum of those 80 and 68 before it, so far back that many are made at once.
+fn outputs(seed: u32, mask: u32, n: usize) -> [u8; 2000]
+    requires { ⌜ (seed < 2 ^ 20) × (n ≤ 2000) ⌝ }
+    ensures { λ r. ⌜ ((i : ℕ) → i < n → row r i ≡ scrambling seed mask i) ⌝ }
 {
     let mut out = early_outputs(seed, mask);
-    for i in 80..1000 {
+    for i in 80..n {
         out[i] = out[i - 80] ^ out[i - 68];
     }
     out
@@ -73,24 +73,24 @@ fn added(bit: u8, s: u8) -> u8
     (bit % 2 + s) % 2
 }
 
-// How many of n bits are a slot's: 1000 at the most.
+// How many of n bits are a slot's: 2000 at the most.
 fn slot_part(n: usize) -> usize
-    ensures { λ r. ⌜ r ≡ min n 1000 ⌝ }
+    ensures { λ r. ⌜ r ≡ min n 2000 ⌝ }
 {
-    if n < 1000 {
+    if n < 2000 {
         return n;
     }
-    1000
+    2000
 }
 
-// Adds the scrambler's output to a slot's bits, in place; a doubtful one stays doubtful, and what lies behind the slot stays as it was. Done twice,
-// it gives the bits back. Of a seed only the lowest 20 bits count.
+// Adds the scrambler's output to a slot's bits, in place; a doubtful one stays doubtful, and what lies behind the 2000 bits of the largest slot stays as
+// it was. Done twice, it gives the bits back. Of a seed only the lowest 20 bits count.
 pub fn scramble(seed: u32, mask: u32, bits: &mut [u8])
     ensures { λ _. ⌜ Holds 0 (length (now (bits .entry)))
-        (upTo 1000 (λ i. unscrambled (row (now (bits .entry)) i) (scrambling seed mask i)) (row (now (bits .entry)))) (now (bits .exit)) ⌝ }
+        (upTo 2000 (λ i. unscrambled (row (now (bits .entry)) i) (scrambling seed mask i)) (row (now (bits .entry)))) (now (bits .exit)) ⌝ }
 {
-    let out = outputs(seed % 1048576, mask);
     let n = slot_part(bits.len());
+    let out = outputs(seed % 1048576, mask, n);
     for i in 0..n {
         bits[i] = added(bits[i], out[i]);
     }

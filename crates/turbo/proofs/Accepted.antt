@@ -7,7 +7,8 @@ use lib.Dec.{T, eqb, ltb, eqb→eq, ltb→lt, lt→ltb}
 use lib.Ieee.Fits.{and-i, eq→eqb}
 use Rattle.rules.specs.Bits.{pick, bitOf, byteBit}
 use Rattle.rules.specs.Packet.{checkWord, packetBit}
-use Rattle.rules.specs.Slots.{packetBits, coded}
+use Rattle.rules.specs.Modes.{packetBits}
+use Rattle.rules.specs.Slots.{coded}
 use Rattle.rules.specs.Block.{decidedData, byteOf, checkRight, reservedRight, judged, verdict}
 use Rattle.laws.specs.Every.{every-at, every-of}
 use Rattle.packet.proofs.Bits.{data-bit, check-bit, zero-bit, packet-bit-lt, bytes-back, bits-back, word-same, check-same, reserved-same, byte-same}

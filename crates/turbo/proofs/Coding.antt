@@ -7,7 +7,8 @@ use native.Mathlib.Omega.{arith}
 use lib.ListN.{length, replicate}
 use Rattle.rules.specs.Bits.{row}
 use Rattle.rules.specs.Packet.{packetBit}
-use Rattle.rules.specs.Slots.{packetBits, coded, blockBit}
+use Rattle.rules.specs.Modes.{packetBits}
+use Rattle.rules.specs.Slots.{coded, blockBit}
 use Rattle.laws.specs.Holds.{Holds}
 use Rattle.laws.specs.Filled.{holds-new}
 use Rattle.laws.specs.Parts.{part, putPart, part-number, part-place, part-at, part-within, holds-part}

@@ -1,21 +1,23 @@
--- A packet's coded bits in each mode: places among the streams, read through the bit interleaver. All that a mode has to pass is one computed test.
-use mathlib.Core.Path.{_≡_, refl, sym, ap, ap₂, _∙_}
-use mathlib.Core.Bool.{Bool, true, false}
+-- A packet's coded bits in each mode: places among the streams, read through the bit interleaver. All that is asked of a mode is in its figures.
+use mathlib.Core.Path.{_≡_, sym, ap, ap₂, _∙_}
 use mathlib.Core.List.{List}
 use Prim.Native.Nat.{ℕ, _+_, _*_, _/_, _%_, _<_, _≤_}
 use native.Mathlib.Nat.{mod-lt, div-add-mod, div-lt-iff-lt-mul, mul-le-mul-left}
 use native.Mathlib.Omega.{arith}
 use lib.Dec.{eqb}
-use Rattle.rules.specs.Bits.{pick, row}
+use Rattle.rules.specs.Bits.{row}
 use Rattle.rules.specs.Interleaver.{tableD, interleaved, bitInterleaved, bitDeinterleaved}
-use Rattle.rules.specs.Turbo.{half, third, codedLength, codedBit, dataPlace}
-use Rattle.rules.specs.Slots.{rate, packetBits, second, coded}
+use Rattle.rules.specs.Turbo.{codedLength, codedBit, dataPlace}
+use Rattle.rules.specs.Modes.{rate, packetBits}
+use Rattle.rules.specs.Slots.{second, coded}
 use Rattle.rules.specs.Block.{decidedData}
+use Rattle.rules.specs.declared.Rate.{Rate}
 use Rattle.laws.specs.Every.{every-same}
 use Rattle.laws.specs.Filled.{upTo-below}
 use Rattle.interleaver.proofs.Interleaving.{interleaved5-lt}
+use Rattle.modes.proofs.Figures.{figures}
 use Rattle.turbo.specs.Streams.{stream, place}
-use Rattle.turbo.specs.Coded.{Places, sameBits, sentPlace, sentFrom}
+use Rattle.turbo.specs.Coded.{Places, OwnPlaces, ownPlace, sameBits, sentPlace, sentFrom}
 use Rattle.turbo.proofs.Streams.{coded-stream, place-lt, own-coded, stream-bit, stream-same}
 
 -- ---- the bit interleaver, over any number of bits that four divides
@@ -57,54 +59,55 @@ streams-same x y same = stream-same x (second x) y (second y) same (second-same 
 pub streams-bit : (x : ℕ → ℕ) → ((i : ℕ) → i < 994 → x i < 2) → (k : ℕ) → stream x (second x) k < 2
 streams-bit x bit = stream-bit x (second x) bit (λ i lt. bit (interleaved 5 (row tableD) 994 i) (interleaved5-lt i lt))
 
--- ---- the places, of mode 0 and of any other number
+-- ---- the places
 
--- four divides the number of bits, it is the number that the rate makes, and the table has room for it
-sizes : (first : Bool)
-    → let n : ℕ = pick first 3000 2000 in
-    (n ≡ 4 * (n / 4)) × (codedLength (pick first third half) 994 ≡ n) × (n ≤ 3000)
-sizes true = (refl, refl, omega arith)
-sizes false = (refl, refl, omega arith)
+-- where bit i of x itself stands, and as which bit it is sent
+pub own-lt : (R : Rate) (i : ℕ) → i < 994 → dataPlace R i < codedLength R 994
+own-lt R i lt = own-coded R (λ k. 0) (λ k. 0) i lt .0
+
+pub own-sent-lt : (R : Rate) (L : ℕ) → codedLength R 994 ≡ L → L ≡ 4 * (L / 4) → (i : ℕ) → i < 994 → bitDeinterleaved L (dataPlace R i) < L
+own-sent-lt R L long four i lt = deinterleaved-lt L four (dataPlace R i) (omega (arith, own-lt R i lt))
 
 module _ (m : ℕ) where
-  pub whole : packetBits m ≡ 4 * (packetBits m / 4)
-  whole = sizes (eqb m 0) .0
-
-  long : codedLength (rate m) 994 ≡ packetBits m
-  long = sizes (eqb m 0) .1
-
-  pub bits-most : packetBits m ≤ 3000
-  bits-most = sizes (eqb m 0) .2
-
   -- which of the bits before the bit interleaver is sent as bit i, and where that stands in the streams
   source-lt : (i : ℕ) → i < packetBits m → bitInterleaved (packetBits m) i < packetBits m
-  source-lt = interleaved-lt (packetBits m) whole
+  source-lt = interleaved-lt (packetBits m) (figures m .four)
 
-  pub rate-place-lt : (n : ℕ) → n < packetBits m → place (rate m) n < 3988
-  rate-place-lt n lt = place-lt (rate m) n (rw long lt)
+  rate-place-lt : (n : ℕ) → n < packetBits m → place (rate m) n < 3988
+  rate-place-lt n lt = place-lt (rate m) n (rw (figures m .coded) lt)
 
-  -- what the table has
+  pub sent-lt : (i : ℕ) → i < 994 → bitDeinterleaved (packetBits m) (dataPlace (rate m) i) < packetBits m
+  sent-lt = own-sent-lt (rate m) (packetBits m) (figures m .coded) (figures m .four)
+
+  -- what the code works out by a rate that is the mode's
+  module _ (R : Rate) (is : R ≡ rate m) where
+    pub rate-quarters : (n : ℕ) → n ≡ packetBits m → (codedLength R 994 ≡ 4 * (n / 4)) × (n / 4 ≤ 750)
+    rate-quarters n e = rw is (omega (arith, figures m .coded, figures m .four), omega (arith, figures m .most))
+
+    pub rate-sent : (i : ℕ) → place R (bitInterleaved (codedLength R 994) i) ≡ sentPlace m i
+    rate-sent i = rw (is, figures m .coded)
+
+    pub rate-own : (i : ℕ) → bitDeinterleaved (codedLength R 994) (dataPlace R i) ≡ ownPlace m i
+    rate-own i = rw (is, figures m .coded)
+
+  -- what the tables have
   module _ (l : List ℕ) (held : Places m l) where
     pub place-read : (i : ℕ) → i < packetBits m → row l i ≡ sentPlace m i
-    place-read i lt = held .each i (omega (arith, bits-most)) ∙ upTo-below (sentPlace m) (λ k. 0) (packetBits m) i lt
+    place-read i lt = held .each i (omega (arith, figures m .most)) ∙ upTo-below (sentPlace m) (λ k. 0) (packetBits m) i lt
 
     pub place-read-lt : (i : ℕ) → i < packetBits m → row l i < 3988
     place-read-lt i lt = rw (place-read i lt) (rate-place-lt _ (source-lt i lt))
 
+  pub own-read-lt : (l : List ℕ) → OwnPlaces m l → (i : ℕ) → i < 994 → row l i < packetBits m
+  own-read-lt l held i lt = rw (held .each i lt) (sent-lt i lt)
+
 -- ---- what is sent in each mode
 
 module _ (m : ℕ) where
-  -- where bit i of x itself is sent
-  own-lt : (i : ℕ) → i < 994 → dataPlace (rate m) i < packetBits m
-  own-lt i lt = rw (long m) at (own-coded (rate m) (λ k. 0) (λ k. 0) i lt .0)
-
-  pub sent-lt : (i : ℕ) → i < 994 → bitDeinterleaved (packetBits m) (dataPlace (rate m) i) < packetBits m
-  sent-lt i lt = deinterleaved-lt (packetBits m) (whole m) (dataPlace (rate m) i) (own-lt i lt)
-
   -- bit i of what is sent, in the streams
   pub coded-at : (x : ℕ → ℕ) (i : ℕ) → i < packetBits m → coded m x i ≡ stream x (second x) (sentPlace m i)
   unfolding coded
-  coded-at x i lt = coded-stream (rate m) x (second x) (bitInterleaved (packetBits m) i) (rw (long m) (source-lt m i lt))
+  coded-at x i lt = coded-stream (rate m) x (second x) (bitInterleaved (packetBits m) i) (rw (figures m .coded) (source-lt m i lt))
 
   -- and in any row that has them
   pub sent-coded : (x g : ℕ → ℕ)
@@ -118,8 +121,11 @@ module _ (m : ℕ) where
   pub decided-coded : (x : ℕ → ℕ) (i : ℕ) → i < 994 → decidedData m (coded m x) i ≡ x i
   unfolding coded
   decided-coded x i lt =
-      ap (codedBit (rate m) x (second x) 994) (deinterleaved-back (packetBits m) (whole m) (dataPlace (rate m) i) (own-lt i lt))
+      ap (codedBit (rate m) x (second x) 994) (deinterleaved-back (packetBits m) (figures m .four) (dataPlace (rate m) i) own-in)
       ∙ own-coded (rate m) x (second x) i lt .1
+    where
+      own-in : dataPlace (rate m) i < packetBits m
+      own-in = rw (figures m .coded) at (own-lt (rate m) i lt)
 
   -- what is sent goes by the 994 bits, and is bits
   pub coded-same : (x y : ℕ → ℕ) → ((i : ℕ) → i < 994 → x i ≡ y i) → (i : ℕ) → i < packetBits m → coded m x i ≡ coded m y i

@@ -12,8 +12,10 @@ use lib.Ieee.Fits.{and-l, and-r}
 use lib.ListN.{length, getD}
 use borrow.Author.Tests.{lt-ltb, le-ltb}
 use Rattle.rules.specs.Bits.{pick, everyBelow}
-use Rattle.rules.specs.Turbo.{Rate, half, third, Output, Sent, X, Y0, X', Y'0, at, period, pattern, tail, dataOutput, tailOutput}
+use Rattle.rules.specs.Turbo.{Output, Sent, X, Y0, X', Y'0, at, period, pattern, tail, dataOutput, tailOutput}
 use Rattle.rules.specs.Turbo.{feedback, parityOf, shift, entering, state, y0, ending, dataLength, codedLength, codedBit, dataPlace}
+use Rattle.rules.specs.declared.Rate.{Rate}
+use Rattle.rules.specs.declared.Rate.the-variants.{Half, Third, TwoThirds}
 use Rattle.laws.specs.Every.{every-at}
 use Rattle.turbo.specs.Streams.{streamOf, streamNumber, period-of, stream, placeFrom, place}
 
@@ -60,8 +62,9 @@ Passed R =
     × T (everyBelow 994 (ownFits R))
 
 passed : (R : Rate) → Passed R
-passed half = (tt, tt, tt, tt)
-passed third = (tt, tt, tt, tt)
+passed Half = (tt, tt, tt, tt)
+passed Third = (tt, tt, tt, tt)
+passed TwoThirds = (tt, tt, tt, tt)
 
 -- ---- places
 
@@ -133,18 +136,36 @@ place-by-data R l t n b lt begins =
     (mod-lt n (ltb→lt 0 (patternLength R) (passed R .0)))))
     ∙ sym (place-data R n lt ∙ placeFrom-add (begun R n) (outputOf R n))
 
--- and by one of the first h entries of the tail, where the second encoder's are the same 1994 places on
-pub place-by-tail : (R : Rate) (h : ℕ) (l : List ℕ)
+-- and by what a table says of each entry of the tail
+tail-by : (R : Rate) (f : ℕ → ℕ)
+    → T (everyBelow (length (tail R)) (λ e. eqb (f e) (placeFrom 994 (inTail R e))))
+    → (n : ℕ)
+    → dataLength R 994 ≤ n
+    → n < codedLength R 994
+    → f (n - dataLength R 994) ≡ place R n
+tail-by R f t n le lt =
+    eqb→eq _ _ (every-at (length (tail R)) (λ e. eqb (f e) (placeFrom 994 (inTail R e))) t (n - dataLength R 994) (omega arith))
+    ∙ sym (place-tail R n le)
+
+-- a table of the whole tail
+pub place-by-tail : (R : Rate) (l : List ℕ)
+    → T (everyBelow (length (tail R)) (λ e. eqb (getD l e 0) (placeFrom 994 (inTail R e))))
+    → (n : ℕ)
+    → dataLength R 994 ≤ n
+    → n < codedLength R 994
+    → entry l (n - dataLength R 994) ≡ place R n
+unfolding entry
+place-by-tail R l = tail-by R (entry l)
+
+-- a table of its first h entries, where the second encoder's are the same 1994 places on
+pub place-by-half-tail : (R : Rate) (h : ℕ) (l : List ℕ)
     → T (everyBelow (length (tail R)) (λ e. eqb (1994 * (e / h) + getD l (e % h) 0) (placeFrom 994 (inTail R e))))
     → (n : ℕ)
     → dataLength R 994 ≤ n
     → n < codedLength R 994
     → 1994 * ((n - dataLength R 994) / h) + entry l ((n - dataLength R 994) % h) ≡ place R n
 unfolding entry
-place-by-tail R h l t n le lt =
-    eqb→eq _ _
-    (every-at (length (tail R)) (λ e. eqb (1994 * (e / h) + getD l (e % h) 0) (placeFrom 994 (inTail R e))) t (n - dataLength R 994) (omega arith))
-    ∙ sym (place-tail R n le)
+place-by-half-tail R h l = tail-by R (λ e. 1994 * (e / h) + entry l (e % h))
 
 -- ---- streams
 

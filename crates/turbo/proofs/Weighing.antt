@@ -8,7 +8,8 @@ use lib.ListN.{length, set, replicate}
 use Rattle.rules.specs.Bits.{pick, row}
 use Rattle.rules.specs.Outer.{marked}
 use Rattle.rules.specs.Points.{doubtful}
-use Rattle.rules.specs.Slots.{packetBits, coded}
+use Rattle.rules.specs.Modes.{packetBits}
+use Rattle.rules.specs.Slots.{coded}
 use Rattle.rules.specs.Block.{packetPart, decidedData, byteOf, verdict, reason}
 use Rattle.rules.specs.declared.Judgement.{Judgement}
 use Rattle.laws.specs.Every.{every-same}

@@ -7,10 +7,12 @@ use lib.Dec.{eqb, ltb}
 use lib.ListN.{length, replicate}
 use Rattle.rules.specs.Bits.{pick, row, everyBelow}
 use Rattle.rules.specs.Packet.{packetBit}
-use Rattle.rules.specs.Interleaver.{tableD, interleaved, bitInterleaved}
+use Rattle.rules.specs.Interleaver.{tableD, interleaved, bitInterleaved, bitDeinterleaved}
+use Rattle.rules.specs.Turbo.{dataPlace}
 use Rattle.rules.specs.Points.{doubtful}
 use Rattle.rules.specs.Answers.{codingNumber}
-use Rattle.rules.specs.Slots.{isMode, rate, packetBits, coded}
+use Rattle.rules.specs.Modes.{isMode, rate, packetBits}
+use Rattle.rules.specs.Slots.{coded}
 use Rattle.rules.specs.Block.{verdict, decidedData, byteOf}
 use Rattle.rules.specs.declared.Coding.{Coding}
 use Rattle.rules.specs.declared.Judgement.{Judgement}
@@ -39,12 +41,19 @@ sentPlace m i = place (rate m) (bitInterleaved (packetBits m) i)
 abbrev pub sentFrom : ℕ → (ℕ → ℕ) → ℕ → ℕ
 sentFrom m g i = g (sentPlace m i)
 
--- the two tables that serve every packet of a block: the interleaver's addresses, and the places of what is sent
+-- as which bit the packet's own bit i is sent
+abbrev pub ownPlace : ℕ → ℕ → ℕ
+ownPlace m i = bitDeinterleaved (packetBits m) (dataPlace (rate m) i)
+
+-- the tables that serve every packet of a block: the interleaver's addresses, the places of what is sent, and as which bits the packet's own are sent
 abbrev pub Addresses : List ℕ → Type 0
 Addresses l = Holds 0 994 (interleaved 5 (row tableD) 994) l
 
 abbrev pub Places : ℕ → List ℕ → Type 0
 Places m l = Holds 0 3000 (upTo (packetBits m) (sentPlace m) (λ i. 0)) l
+
+abbrev pub OwnPlaces : ℕ → List ℕ → Type 0
+OwnPlaces m l = Holds 0 994 (ownPlace m) l
 
 -- judging a packet's decided bits, 2 for a doubtful one
 pub record JudgingRule (m : ℕ) (v : ℕ → ℕ) (a : Judgement) : Type 0 where

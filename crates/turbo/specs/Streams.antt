@@ -4,8 +4,8 @@ use Prim.Native.Nat.{ℕ, _+_, _-_, _*_, _/_, _%_}
 use lib.Dec.{eqb, ltb}
 use lib.ListN.{length, getD}
 use Rattle.rules.specs.Bits.{pick}
-use Rattle.rules.specs.Turbo.{Rate, Output, Sent, X, Y0, X', Y'0, at, period, pattern, tail, dataLength, dataOutput, tailOutput}
-use Rattle.rules.specs.Slots.{entered}
+use Rattle.rules.specs.Turbo.{Output, Sent, X, Y0, X', Y'0, at, entered, period, pattern, tail, dataLength, dataOutput, tailOutput}
+use Rattle.rules.specs.declared.Rate.{Rate}
 
 abbrev pub streamOf : ℕ → Output
 streamOf o = pick (eqb o 0) X (pick (eqb o 1) Y0 (pick (eqb o 2) X' Y'0))

@@ -1,18 +1,18 @@
-// A block's 16 packets, coded or judged one after the other. A mode other than 0 counts as 1.
+// A block's 16 packets, coded or judged one after the other. A number that is no mode counts as 1.
 ghost use mathlib.Core.Path.{_≡_};
 ghost use Prim.Native.Nat.{_+_, _*_, _≤_, _<_, _^_};
 ghost use lib.Dec.{eqb};
 ghost use lib.ListN.{length};
 ghost use Rattle.rules.specs.Bits.{pick, row};
 ghost use Rattle.rules.specs.Outer as outerRule;
-ghost use Rattle.rules.specs.Slots.{packetBits};
+ghost use Rattle.rules.specs.Modes.{packetBits};
 ghost use Rattle.laws.specs.Holds.{Holds};
-ghost use Rattle.turbo.specs.Coded.{Addresses, Places};
+ghost use Rattle.turbo.specs.Coded.{Addresses, Places, OwnPlaces};
 ghost use Rattle.turbo.specs.Blocks.{codedRow, Weighed, WeighedTo};
 use super::code_with;
 use super::copy;
 use super::judge_with;
-use super::packet_bits;
+use super::own_places;
 use super::places;
 use rules::Judgement;
 
@@ -29,7 +29,7 @@ pub fn code_block(mode: u8, block: [u8; 1952]) -> [u8; 48000]
 {
     let addresses = interleaver::addresses();
     let places = places(mode);
-    let n = packet_bits(mode);
+    let n = modes::packet_bits(mode);
     let mut bits = [0u8; 48000];
     for p in 0..16 {
         let from = 122 * p;
@@ -54,8 +54,8 @@ fn marked(marks: u16, p: usize) -> u16
 }
 
 // One packet's judgement: a marked one is lost without a look at its bits.
-fn weigh(addresses: &[u16], places: &[u16], mode: u8, mark: u16, v: &[u8]) -> Judgement
-    requires { ⌜ Addresses (now addresses) × Places mode (now places) × (packetBits mode ≤ length (now v)) ⌝ }
+fn weigh(addresses: &[u16], places: &[u16], own: &[u16], mode: u8, mark: u16, v: &[u8]) -> Judgement
+    requires { ⌜ Addresses (now addresses) × Places mode (now places) × OwnPlaces mode (now own) × (packetBits mode ≤ length (now v)) ⌝ }
     ensures { λ r. ⌜ Weighed mode mark (row (now (v .entry))) r ⌝ }
 {
     if mark == 1 {
@@ -64,7 +64,7 @@ fn weigh(addresses: &[u16], places: &[u16], mode: u8, mark: u16, v: &[u8]) -> Ju
             bytes: [0u8; 122],
         };
     }
-    judge_with(addresses, places, mode, v)
+    judge_with(addresses, places, own, mode, v)
 }
 
 // The lost mask with bit p, where packet p has a reason.
@@ -84,7 +84,8 @@ pub fn judge_block(mode: u8, marks: u16, bits: [u8; 48000]) -> Verdicts
 {
     let addresses = interleaver::addresses();
     let places = places(mode);
-    let n = packet_bits(mode);
+    let own = own_places(mode);
+    let n = modes::packet_bits(mode);
     let mut lost = 0u16;
     let mut reasons = [0u8; 16];
     let mut block = [0u8; 1952];
@@ -93,6 +94,7 @@ pub fn judge_block(mode: u8, marks: u16, bits: [u8; 48000]) -> Verdicts
         let j = weigh(
             &addresses,
             &places,
+            &own,
             mode,
             marked(marks, p),
             &bits[at..at + n],

@@ -1,21 +1,21 @@
 // One packet's coded bits, and the judgement on decided ones; a whole block's are in blocks.rt. A bit is a byte that is 0 or 1.
 ghost use mathlib.Core.Path.{_≡_};
 ghost use mathlib.Core.Bool.{_&&_};
-ghost use Prim.Native.Nat.{_+_, _≤_, _<_};
+ghost use Prim.Native.Nat.{ℕ, _+_, _*_, _≤_, _<_};
 ghost use lib.ListN.{length, replicate};
 ghost use Rattle.rules.specs.Bits.{row};
 ghost use Rattle.rules.specs.Packet.{packetBit};
-ghost use Rattle.rules.specs.Interleaver.{bitDeinterleaved};
+ghost use Rattle.rules.specs.Interleaver.{bitInterleaved, bitDeinterleaved};
 ghost use Rattle.rules.specs.Turbo as rule;
-ghost use Rattle.rules.specs.Turbo.{half, third};
-ghost use Rattle.rules.specs.Slots.{rate, packetBits, second, coded};
-ghost use Rattle.rules.specs.Block.{decidedData};
+ghost use Rattle.rules.specs.Turbo.{codedLength};
+ghost use Rattle.rules.specs.Modes.{packetBits};
+ghost use Rattle.rules.specs.Slots.{second, coded};
 ghost use Rattle.laws.specs.Holds.{Holds};
 ghost use Rattle.laws.specs.Rows.{Bits};
 ghost use Rattle.turbo.specs.Streams as streams;
 ghost use Rattle.turbo.specs.Streams.{stream};
 ghost use Rattle.turbo.specs.Within.{from, withData, withEnds, Puts};
-ghost use Rattle.turbo.specs.Coded.{CodingRule, JudgingRule, Addresses, Places, plainBits, sameBits, sentPlace, sentFrom};
+ghost use Rattle.turbo.specs.Coded.{CodingRule, JudgingRule, Addresses, Places, OwnPlaces, plainBits, sameBits, sentFrom};
 
 mod blocks;
 
@@ -24,6 +24,7 @@ pub use blocks::code_block;
 pub use blocks::judge_block;
 use rules::Coding;
 use rules::Judgement;
+use rules::Rate;
 
 // Rate 1/3: where the outputs of a bit stand, and those that end the first encoder.
 const THIRD_DATA: [u16; 3] = [0, 997, 2991];
@@ -35,6 +36,11 @@ const HALF_DATA: [u16; 4] = [0, 997, 1, 2992];
 
 const HALF_TAIL: [u16; 6] = [994, 1991, 995, 1992, 996, 1993];
 
+// Rate 2/3: the same, of four bits; the tail has both encoders', which don't end alike.
+const TWO_THIRDS_DATA: [u16; 6] = [0, 997, 1, 2, 3, 2994];
+
+const TWO_THIRDS_TAIL: [u16; 9] = [994, 1991, 995, 996, 1993, 2988, 2989, 3986, 2990];
+
 fn wide(x: u16) -> usize
     ensures { λ r. ⌜ (r ≡ x) × (r < 65536) ⌝ }
 {
@@ -43,7 +49,7 @@ fn wide(x: u16) -> usize
 
 fn place_third(n: usize) -> usize
     requires { ⌜ n < 3000 ⌝ }
-    ensures { λ r. ⌜ r ≡ streams.place third n ⌝ }
+    ensures { λ r. ⌜ r ≡ streams.place Rate.Third n ⌝ }
 {
     if n < 2982 {
         n / 3 + wide(THIRD_DATA[n % 3])
@@ -55,7 +61,7 @@ fn place_third(n: usize) -> usize
 
 fn place_half(n: usize) -> usize
     requires { ⌜ n < 2000 ⌝ }
-    ensures { λ r. ⌜ r ≡ streams.place half n ⌝ }
+    ensures { λ r. ⌜ r ≡ streams.place Rate.Half n ⌝ }
 {
     if n < 1988 {
         n / 4 * 2 + wide(HALF_DATA[n % 4])
@@ -65,54 +71,97 @@ fn place_half(n: usize) -> usize
     }
 }
 
-// The place, among the four streams, of bit n of what is sent.
-fn place(mode: u8, n: usize) -> usize
-    requires { ⌜ n < packetBits mode ⌝ }
-    ensures { λ r. ⌜ (r ≡ streams.place (rate mode) n) × (r < 3988) ⌝ }
+// The data has 1491 bits: the last pattern is used for two bits only.
+fn place_two_thirds(n: usize) -> usize
+    requires { ⌜ n < 1500 ⌝ }
+    ensures { λ r. ⌜ r ≡ streams.place Rate.TwoThirds n ⌝ }
 {
-    if mode == 0 {
-        place_third(n)
+    if n < 1491 {
+        n / 6 * 4 + wide(TWO_THIRDS_DATA[n % 6])
     } else {
-        place_half(n)
+        wide(TWO_THIRDS_TAIL[n - 1491])
     }
 }
 
-// How many bits a packet has.
-fn packet_bits(mode: u8) -> usize
-    ensures { λ r. ⌜ (r ≡ packetBits mode) × (2000 ≤ r) × (r ≤ 3000) ⌝ }
+// The place, among the four streams, of bit n of what is sent.
+fn place(rate: Rate, n: usize) -> usize
+    requires { ⌜ n < codedLength rate 994 ⌝ }
+    ensures { λ r. ⌜ (r ≡ streams.place rate n) × (r < 3988) ⌝ }
 {
-    if mode == 0 { 3000 } else { 2000 }
+    match rate {
+        Rate::Half => place_half(n),
+        Rate::Third => place_third(n),
+        Rate::TwoThirds => place_two_thirds(n),
+    }
 }
 
 // The place of what is sent as bit i: four columns are written down and read row by row.
-fn sent_place(mode: u8, i: usize) -> usize
-    requires { ⌜ i < packetBits mode ⌝ }
-    ensures { λ r. ⌜ (r ≡ sentPlace mode i) × (r < 3988) ⌝ }
+fn sent_place(rate: Rate, rows: usize, i: usize) -> usize
+    requires { ⌜ (codedLength rate 994 ≡ 4 * rows) × (rows ≤ 750) × (i < codedLength rate 994) ⌝ }
+    ensures { λ r. ⌜ (r ≡ streams.place rate (bitInterleaved (codedLength rate 994) i)) × (r < 3988) ⌝ }
 {
-    let rows = packet_bits(mode) / 4;
-    place(mode, rows * (i % 4) + i / 4)
+    place(rate, rows * (i % 4) + i / 4)
 }
 
 // The places of all that is sent for a packet, and zeros after them. They are the same for every packet.
 fn places(mode: u8) -> [u16; 3000]
     ensures { λ r. ⌜ Places mode r ⌝ }
 {
-    let n = packet_bits(mode);
+    let n = modes::packet_bits(mode);
+    let rate = modes::rate(mode);
+    let rows = n / 4;
     let mut out = [0u16; 3000];
     for i in 0..n {
-        out[i] = sent_place(mode, i) as u16;
+        out[i] = sent_place(rate, rows, i) as u16;
     }
     out
 }
 
-// As which bit the packet's own bit i is sent.
-fn own_place(mode: u8, i: usize) -> usize
+// Where bit i of the packet itself stands in what is sent at rate 2/3: each pattern has Y0 after the first of its four bits.
+fn data_place_two_thirds(i: usize) -> usize
     requires { ⌜ i < 994 ⌝ }
-    ensures { λ r. ⌜ (r ≡ bitDeinterleaved (packetBits mode) (rule.dataPlace (rate mode) i)) × (r < packetBits mode) ⌝ }
+    ensures { λ r. ⌜ r ≡ rule.dataPlace Rate.TwoThirds i ⌝ }
 {
-    let rows = packet_bits(mode) / 4;
-    let n = if mode == 0 { 3 * i } else { 2 * i };
+    let begin = 6 * (i / 4);
+    if i % 4 == 0 {
+        begin
+    } else {
+        begin + (i % 4 + 1)
+    }
+}
+
+// Where it stands at any rate.
+fn data_place(rate: Rate, i: usize) -> usize
+    requires { ⌜ i < 994 ⌝ }
+    ensures { λ r. ⌜ r ≡ rule.dataPlace rate i ⌝ }
+{
+    match rate {
+        Rate::Half => 2 * i,
+        Rate::Third => 3 * i,
+        Rate::TwoThirds => data_place_two_thirds(i),
+    }
+}
+
+// As which bit it is sent.
+fn own_place(rate: Rate, rows: usize, i: usize) -> usize
+    requires { ⌜ (codedLength rate 994 ≡ 4 * rows) × (rows ≤ 750) × (i < 994) ⌝ }
+    ensures { λ r. ⌜ (r ≡ bitDeinterleaved (codedLength rate 994) (rule.dataPlace rate i)) × (r < 3000) ⌝ }
+{
+    let n = data_place(rate, i);
     4 * (n % rows) + n / rows
+}
+
+// As which bits the packet's own are sent. They are the same for every packet.
+fn own_places(mode: u8) -> [u16; 994]
+    ensures { λ r. ⌜ OwnPlaces mode r ⌝ }
+{
+    let rate = modes::rate(mode);
+    let rows = modes::packet_bits(mode) / 4;
+    let mut out = [0u16; 994];
+    for i in 0..994 {
+        out[i] = own_place(rate, rows, i) as u16;
+    }
+    out
 }
 
 // What the feedback of register s adds to the bit that comes in.
@@ -248,7 +297,7 @@ fn send(places: &[u16], mode: u8, all: [u8; 3988], out: &mut [u8])
     requires { ⌜ Places mode (now places) × (length (now out) ≡ packetBits mode) ⌝ }
     ensures { λ r. ⌜ Holds 0 (packetBits mode) (sentFrom mode (row all)) (now (out .exit)) ⌝ }
 {
-    let n = packet_bits(mode);
+    let n = modes::packet_bits(mode);
     let mut i = 0;
     while i < n {
         out[i] = all[wide(places[i])];
@@ -297,13 +346,13 @@ fn code_with(addresses: &[u16], places: &[u16], mode: u8, data: &[u8], out: &mut
 pub fn code(mode: u8, data: &[u8], out: &mut [u8]) -> Coding
     ensures { λ r. ⌜ CodingRule mode (now («data» .entry)) (now (out .entry)) (now (out .exit)) r ⌝ }
 {
-    if mode > 1 {
+    if !modes::is_mode(mode) {
         return Coding::WrongMode;
     }
     if data.len() != 122 {
         return Coding::WrongLength;
     }
-    if out.len() != packet_bits(mode) {
+    if out.len() != modes::packet_bits(mode) {
         return Coding::WrongLength;
     }
     let addresses = interleaver::addresses();
@@ -337,7 +386,7 @@ fn same(places: &[u16], mode: u8, v: &[u8], all: [u8; 3988]) -> bool
     requires { ⌜ Places mode (now places) × (packetBits mode ≤ length (now v)) ⌝ }
     ensures { λ r. ⌜ r ≡ sameBits (packetBits mode) (row (now (v .entry))) (sentFrom mode (row all)) ⌝ }
 {
-    let n = packet_bits(mode);
+    let n = modes::packet_bits(mode);
     let mut ok = true;
     let mut i = 0;
     while i < n {
@@ -347,15 +396,15 @@ fn same(places: &[u16], mode: u8, v: &[u8], all: [u8; 3988]) -> bool
     ok
 }
 
-// The 994 decided bits that entered the encoders.
-fn decided(mode: u8, v: &[u8]) -> [u8; 994]
-    requires { ⌜ packetBits mode ≤ length (now v) ⌝ }
-    ensures { λ r. ⌜ Holds 0 994 (decidedData mode (row (now (v .entry)))) r ⌝ }
+// The decided bits at these 994 places.
+fn decided(own: &[u16], v: &[u8]) -> [u8; 994]
+    requires { ⌜ (length (now own) ≡ 994) × ((i : ℕ) → i < 994 → row (now own) i < length (now v)) ⌝ }
+    ensures { λ r. ⌜ Holds 0 994 (λ i. row (now (v .entry)) (row (now (own .entry)) i)) r ⌝ }
 {
     let mut x = [0u8; 994];
     let mut i = 0;
     while i < 994 {
-        x[i] = v[own_place(mode, i)];
+        x[i] = v[wide(own[i])];
         i = i + 1;
     }
     x
@@ -370,15 +419,15 @@ fn refused(reason: u8) -> Judgement
     }
 }
 
-// Judges the first decided bits, as many as a packet of the mode has; the addresses are the interleaver's, and the places the mode's.
-fn judge_with(addresses: &[u16], places: &[u16], mode: u8, v: &[u8]) -> Judgement
-    requires { ⌜ Addresses (now addresses) × Places mode (now places) × (packetBits mode ≤ length (now v)) ⌝ }
+// Judges the first decided bits, as many as a packet of the mode has; the addresses are the interleaver's, and both tables of places the mode's.
+fn judge_with(addresses: &[u16], places: &[u16], own: &[u16], mode: u8, v: &[u8]) -> Judgement
+    requires { ⌜ Addresses (now addresses) × Places mode (now places) × OwnPlaces mode (now own) × (packetBits mode ≤ length (now v)) ⌝ }
     ensures { λ r. ⌜ JudgingRule mode (row (now (v .entry))) r ⌝ }
 {
-    if !plain(v, packet_bits(mode)) {
+    if !plain(v, modes::packet_bits(mode)) {
         return refused(12);
     }
-    let x = decided(mode, v);
+    let x = decided(own, v);
     if !packet::check_right(x) {
         return refused(13);
     }
@@ -394,11 +443,12 @@ fn judge_with(addresses: &[u16], places: &[u16], mode: u8, v: &[u8]) -> Judgemen
     }
 }
 
-// Judges one packet's decided bits; those past the mode's are unused. A mode other than 0 counts as 1.
+// Judges one packet's decided bits; those past the mode's are unused. A number that is no mode counts as 1.
 pub fn judge(mode: u8, v: [u8; 3000]) -> Judgement
     ensures { λ r. ⌜ JudgingRule mode (row v) r ⌝ }
 {
     let addresses = interleaver::addresses();
     let places = places(mode);
-    judge_with(&addresses, &places, mode, &v)
+    let own = own_places(mode);
+    judge_with(&addresses, &places, &own, mode, &v)
 }

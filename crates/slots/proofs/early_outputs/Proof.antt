@@ -11,7 +11,7 @@ use Rattle.slots.proofs.early_outputs.Statement.{statement}
 use Rattle.slots.proofs.early_outputs.Tie as tie
 
 abbrev Inv-loop : tie.InvT-loop
-Inv-loop seed mask out₀ i₀ out i = Holds 0 1000 (upTo i (scrambling seed mask) (λ k. 0)) out × (20 ≤ i) × (i ≤ 80)
+Inv-loop seed mask out₀ i₀ out i = Holds 0 2000 (upTo i (scrambling seed mask) (λ k. 0)) out × (20 ≤ i) × (i ≤ 80)
 
 abbrev μ-loop : tie.MeasureT-loop
 μ-loop seed mask out₀ i₀ out i = 80 - i

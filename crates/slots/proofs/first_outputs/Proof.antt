@@ -12,7 +12,7 @@ use Rattle.slots.proofs.first_outputs.Tie as tie
 
 abbrev Inv-loop : tie.InvT-loop
 Inv-loop seed mask out₀ state₀ i₀ out state i =
-    Holds 0 1000 (upTo i (scrambling seed mask) (λ k. 0)) out × (state ≡ scramblerState seed i) × (state < 2 ^ 20) × (i ≤ 20)
+    Holds 0 2000 (upTo i (scrambling seed mask) (λ k. 0)) out × (state ≡ scramblerState seed i) × (state < 2 ^ 20) × (i ≤ 20)
 
 abbrev μ-loop : tie.MeasureT-loop
 μ-loop seed mask out₀ state₀ i₀ out state i = 20 - i
@@ -23,7 +23,7 @@ next-state seed i e f = f ∙ ap scramblerStep e ∙ rw add-one
 
 loop-holds : tie.Need-loop-holds Inv-loop μ-loop
 unfolding scramblerState
-loop-holds c = (holds-new 1000 _, refl, c .pre, omega arith)
+loop-holds c = (holds-new 2000 _, refl, c .pre, omega arith)
 
 output-requires : tie.Need-output-requires Inv-loop μ-loop
 output-requires c κs = omega arith

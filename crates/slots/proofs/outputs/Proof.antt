@@ -1,19 +1,20 @@
 -- `slots::outputs` meets its contract. The loop's invariant: the first i outputs are there.
+use mathlib.Core.Path.{_∙_}
 use Prim.Native.Nat.{_-_, _≤_}
 use native.Mathlib.Omega.{arith}
 use Rattle.rules.specs.Slots.{scrambling}
 use Rattle.laws.specs.Holds.{Holds}
-use Rattle.laws.specs.Filled.{upTo, holds-whole}
+use Rattle.laws.specs.Filled.{upTo, upTo-below}
 use Rattle.slots.proofs.Twice.{scrambling-lt}
 use Rattle.slots.proofs.Recurrence.{recurrence-4, holds-sum}
 use Rattle.slots.proofs.outputs.Statement.{statement}
 use Rattle.slots.proofs.outputs.Tie as tie
 
 abbrev Inv-loop : tie.InvT-loop
-Inv-loop seed mask out₀ i₀ out i = Holds 0 1000 (upTo i (scrambling seed mask) (λ k. 0)) out × (80 ≤ i) × (i ≤ 1000)
+Inv-loop seed mask n out₀ i₀ out i = Holds 0 2000 (upTo i (scrambling seed mask) (λ k. 0)) out × (80 ≤ i) × (i ≤ 2000)
 
 abbrev μ-loop : tie.MeasureT-loop
-μ-loop seed mask out₀ i₀ out i = 1000 - i
+μ-loop seed mask n out₀ i₀ out i = n - i
 
 early-outputs-requires : tie.Need-early-outputs-requires Inv-loop μ-loop
 early-outputs-requires c κs = omega arith
@@ -52,7 +53,10 @@ loop-again c =
     )
 
 returns : tie.Need-returns Inv-loop μ-loop
-returns c = holds-whole _ _ 0 (c .before .loop .i) (omega arith) (c .before .loop .inv .0)
+returns c k lt =
+    let a = c .before .before .before .args in
+    let l = c .before .loop in
+    l .inv .0 .each k (omega arith) ∙ upTo-below (scrambling (a .seed) (a .mask)) (λ n. 0) (l .i) k (omega arith)
 
 pub outputs-spec : {M : Type 1} → statement M
 outputs-spec =

@@ -29,31 +29,31 @@ module _ (seed mask : ℕ) (l₀ : List ℕ) (i : ℕ) {l : List ℕ} where
   as-before : i < length l₀ → Part seed mask l₀ i l → row l i ≡ row l₀ i
   as-before lt h = h .each i lt ∙ upTo-from (after seed mask l₀) (row l₀) i i (le-refl i)
 
-  whole : i ≡ min (length l₀) 1000 → Part seed mask l₀ i l → Part seed mask l₀ 1000 l
-  whole e = holds-as 0 (upTo 1000 (after seed mask l₀) (row l₀)) (λ k lt. at k lt (decLt k 1000))
+  whole : i ≡ min (length l₀) 2000 → Part seed mask l₀ i l → Part seed mask l₀ 2000 l
+  whole e = holds-as 0 (upTo 2000 (after seed mask l₀) (row l₀)) (λ k lt. at k lt (decLt k 2000))
     where
-      at : (k : ℕ) → k < length l₀ → Dec (k < 1000) → upTo i (after seed mask l₀) (row l₀) k ≡ upTo 1000 (after seed mask l₀) (row l₀) k
+      at : (k : ℕ) → k < length l₀ → Dec (k < 2000) → upTo i (after seed mask l₀) (row l₀) k ≡ upTo 2000 (after seed mask l₀) (row l₀) k
       at k lt (yes in-slot) =
-          upTo-below (after seed mask l₀) (row l₀) i k (omega arith) ∙ sym (upTo-below (after seed mask l₀) (row l₀) 1000 k in-slot)
+          upTo-below (after seed mask l₀) (row l₀) i k (omega arith) ∙ sym (upTo-below (after seed mask l₀) (row l₀) 2000 k in-slot)
       at k lt (no behind) =
-          upTo-from (after seed mask l₀) (row l₀) i k (omega arith) ∙ sym (upTo-from (after seed mask l₀) (row l₀) 1000 k (omega arith))
+          upTo-from (after seed mask l₀) (row l₀) i k (omega arith) ∙ sym (upTo-from (after seed mask l₀) (row l₀) 2000 k (omega arith))
 
 abbrev Inv-loop : tie.InvT-loop
-Inv-loop seed mask bits₀ out n i₀ bits i = Part seed mask bits₀ i bits × (i ≤ n)
+Inv-loop seed mask bits₀ n out i₀ bits i = Part seed mask bits₀ i bits × (i ≤ n)
 
 abbrev μ-loop : tie.MeasureT-loop
-μ-loop seed mask bits₀ out n i₀ bits i = n - i
-
-outputs-requires : tie.Need-outputs-requires Inv-loop μ-loop
-outputs-requires c κs = omega arith
-
--- element i of what is added
-put : (c : tie.After-outputs Inv-loop μ-loop) (i : ℕ) → i < 1000
-    → (let a = c .before .before .args in row (c .outputs .result) i ≡ scrambling (a .seed) (a .mask) i)
-put c i lt = let a = c .before .before .args in c .outputs .ensures .each i lt ∙ scrambling-low (a .seed) (a .mask) i
+μ-loop seed mask bits₀ n out i₀ bits i = n - i
 
 slot-part-requires : tie.Need-slot-part-requires Inv-loop μ-loop
 slot-part-requires c κs = tt
+
+outputs-requires : tie.Need-outputs-requires Inv-loop μ-loop
+outputs-requires c κs = (omega arith, omega arith)
+
+-- element i of what is added
+put : (c : tie.After-outputs Inv-loop μ-loop) (i : ℕ) → i < c .before .slot-part .result
+    → (let a = c .before .before .before .args in row (c .outputs .result) i ≡ scrambling (a .seed) (a .mask) i)
+put c i lt = let a = c .before .before .before .args in c .outputs .ensures i lt ∙ scrambling-low (a .seed) (a .mask) i
 
 loop-holds : tie.Need-loop-holds Inv-loop μ-loop
 loop-holds c = (holds-first _ _ 0 (holds-self 0 _), omega arith)
@@ -67,7 +67,7 @@ array-read-added c = omega arith
 added-requires : tie.Need-added-requires Inv-loop μ-loop
 added-requires c κs =
     let i = c .before .before .loop .i in
-    rw (put (c .before .before .before .before) i (omega arith)) (scrambling-lt _ _ i)
+    rw (put (c .before .before .before) i (omega arith)) (scrambling-lt _ _ i)
 
 slice-write-bits : tie.Need-slice-write-bits Inv-loop μ-loop
 slice-write-bits c = omega arith
@@ -81,8 +81,8 @@ loop-less c = omega arith
 loop-again : tie.Need-loop-again Inv-loop μ-loop
 loop-again c =
     let l = c .before .before .before in
-    let o = l .before .before in
-    let a = o .before .before .args in
+    let o = l .before in
+    let a = o .before .before .before .args in
     let was = as-before (a .seed) (a .mask) (a .bits .now) (l .loop .i) (omega arith) (l .loop .inv .0) in
     let bit = c .added .ensures ∙ ap₂ unscrambled was (put o (l .loop .i) (omega arith)) in
     (holds-next _ _ 0 (l .loop .i) _ (omega arith) bit (l .loop .inv .0), omega arith)
@@ -101,8 +101,8 @@ scramble-spec =
     (tie.spec
     Inv-loop
     μ-loop
-    outputs-requires
     slot-part-requires
+    outputs-requires
     loop-holds
     slice-read-added
     array-read-added

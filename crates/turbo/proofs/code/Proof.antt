@@ -5,12 +5,12 @@ use mathlib.Core.List.{List}
 use Prim.Native.Nat.{ℕ}
 use native.Mathlib.Omega.{arith}
 use borrow.Author.Needs.{needs}
-use borrow.Author.Tests.{lt-ltb, le-ltb, eq-eqb, ne-eqb}
+use borrow.Author.Tests.{not-true, not-false, eq-eqb, ne-eqb}
 use denote.Ref.{now}
 use lib.Dec.{eqb}
 use lib.ListN.{length}
 use Rattle.rules.specs.Bits.{pick}
-use Rattle.rules.specs.Slots.{isMode, packetBits}
+use Rattle.rules.specs.Modes.{isMode, packetBits}
 use Rattle.rules.specs.Answers.{codingNumber}
 use Rattle.rules.specs.declared.Coding.{Coding}
 use Rattle.rules.specs.declared.Coding.the-variants.{WrongMode, WrongLength}
@@ -18,11 +18,11 @@ use Rattle.turbo.specs.Coded.{CodingRule}
 use Rattle.turbo.proofs.code.Statement.{statement}
 use Rattle.turbo.proofs.code.Tie as tie
 
-abbrev start : tie.After-slice-known → tie.Start
-start c = c .before .before
+abbrev start : tie.After-is-mode → tie.Start
+start c = c .before .before .before
 
 mode-is : (c : tie.Else1) → isMode (start (c .before) .args .mode) ≡ true
-mode-is c = lt-ltb (start (c .before) .args .mode) 2 (omega arith)
+mode-is c = sym (c .before .is-mode .ensures) ∙ not-false (c .before .is-mode .result) (c .if1 .left)
 
 -- a refusal writes nothing
 refusal : (m : ℕ) (d out : List ℕ) (a : Coding) (n : ℕ) → codingNumber a ≡ n → ¬ (n ≡ 0)
@@ -30,10 +30,14 @@ refusal : (m : ℕ) (d out : List ℕ) (a : Coding) (n : ℕ) → codingNumber a
     → CodingRule m d out out a
 refusal m d out a n is ne e = record { answer = is ∙ e; bits = λ z. absurd (ne (sym is ∙ z)); kept = λ _. refl }
 
+is-mode-requires : tie.Need-is-mode-requires
+is-mode-requires c κs = search needs
+
 returns : tie.Need-returns
 returns c =
     let a = start (c .before) .args in
-    refusal (a .mode) (now (a .«data»)) (now (a .out)) WrongMode 42 refl (λ e. omega arith) (rw (le-ltb (a .mode) 2 (omega arith)))
+    refusal (a .mode) (now (a .«data»)) (now (a .out)) WrongMode 42 refl (λ e. omega arith)
+    (rw (sym (c .before .is-mode .ensures) ∙ not-true (c .before .is-mode .result) (c .if1 .taken)))
 
 returns-2 : tie.Need-returns-2
 returns-2 c =
@@ -92,6 +96,7 @@ pub code-spec : {M : Type 1} → statement M
 code-spec =
     tie.close
     (tie.spec
+    is-mode-requires
     returns
     returns-2
     packet-bits-requires

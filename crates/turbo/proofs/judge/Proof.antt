@@ -1,7 +1,7 @@
 -- The tables are made, and there are as many bits as a packet of any mode has.
 use native.Mathlib.Omega.{arith}
 use borrow.Author.Needs.{needs}
-use Rattle.turbo.proofs.Modes.{bits-most}
+use Rattle.modes.proofs.Figures.{figures}
 use Rattle.turbo.proofs.judge.Statement.{statement}
 use Rattle.turbo.proofs.judge.Tie as tie
 
@@ -10,6 +10,9 @@ addresses-requires c κs = search needs
 
 places-requires : tie.Need-places-requires
 places-requires c κs = search needs
+
+own-places-requires : tie.Need-own-places-requires
+own-places-requires c κs = search needs
 
 slice-aggregate-judge-with : tie.Need-slice-aggregate-judge-with
 slice-aggregate-judge-with c = search needs
@@ -20,11 +23,15 @@ slice-aggregate-judge-with-2 c = search needs
 slice-aggregate-judge-with-3 : tie.Need-slice-aggregate-judge-with-3
 slice-aggregate-judge-with-3 c = search needs
 
+slice-aggregate-judge-with-4 : tie.Need-slice-aggregate-judge-with-4
+slice-aggregate-judge-with-4 c = search needs
+
 judge-with-requires : tie.Need-judge-with-requires
 judge-with-requires c κs =
-    let places = c .before .before .before in
+    let own = c .before .before .before .before in
+    let places = own .before in
     let s = places .before .before in
-    (places .before .addresses .ensures, places .places .ensures, omega (arith, bits-most (s .args .mode)))
+    (places .before .addresses .ensures, places .places .ensures, own .own-places .ensures, omega (arith, figures (s .args .mode) .most))
 
 returns : tie.Need-returns
 returns c = search needs
@@ -35,8 +42,10 @@ judge-spec =
     (tie.spec
     addresses-requires
     places-requires
+    own-places-requires
     slice-aggregate-judge-with
     slice-aggregate-judge-with-2
     slice-aggregate-judge-with-3
+    slice-aggregate-judge-with-4
     judge-with-requires
     returns)

@@ -8,15 +8,16 @@ use borrow.Author.Needs.{needs}
 use borrow.Author.Tests.{not-true, not-false}
 use lib.ListN.{replicate}
 use Rattle.rules.specs.Bits.{row}
-use Rattle.rules.specs.Slots.{packetBits, coded}
+use Rattle.rules.specs.Modes.{packetBits}
+use Rattle.rules.specs.Slots.{coded}
 use Rattle.rules.specs.Block.{verdict, byteOf, decidedData, checkRight, reservedRight}
 use Rattle.rules.specs.declared.Judgement.{Judgement}
-use Rattle.laws.specs.Holds.{holds-as}
+use Rattle.laws.specs.Holds.{Holds, holds-as}
 use Rattle.laws.specs.Rows.{Bits}
 use Rattle.laws.specs.Filled.{holds-bits}
 use Rattle.packet.proofs.Bits.{check-same, reserved-same, byte-same, lowest-bytes}
 use Rattle.turbo.specs.Coded.{JudgingRule, plainBits, sameBits}
-use Rattle.turbo.proofs.Modes.{sent-same}
+use Rattle.turbo.proofs.Modes.{own-read-lt, sent-same}
 use Rattle.turbo.proofs.Accepted.{verdict-by, decided-bit}
 use Rattle.turbo.proofs.judge_with.Statement.{statement}
 use Rattle.turbo.proofs.judge_with.Tie as tie
@@ -32,7 +33,7 @@ refusal m v n a is e not = record { reason-is = is .0 ∙ e; accepted = λ zero.
 -- ---- what is known on the way
 
 abbrev start : tie.After-plain → tie.Start
-start c = c .before .before .before .before .before
+start c = c .before .before .before .before .before .before
 
 abbrev modeOf : tie.After-plain → ℕ
 modeOf c = start c .args .mode
@@ -57,15 +58,18 @@ module _ (c : tie.After-decided) where
   plain-passed : plainBits (packetBits m) v ≡ true
   plain-passed = plain-is (c .before .before) ∙ not-false (c .before .before .plain .result) (c .before .if1 .left)
 
+  has : Holds 0 994 own (c .decided .result)
+  has = holds-as 0 own (λ i lt. ap v (start (c .before .before) .pre .2 .each i lt)) (c .decided .ensures)
+
   own-bit : (i : ℕ) → i < 994 → own i < 2
   own-bit = decided-bit m v (rw plain-passed tt)
 
   bits : Bits (c .decided .result)
-  bits = holds-bits 994 own (c .decided .result) own-bit (c .decided .ensures)
+  bits = holds-bits 994 own (c .decided .result) own-bit has
 
 -- the other tests
 check-is : (c : tie.After-check-right) → checkRight (own (c .before)) ≡ c .check-right .result
-check-is c = sym (c .check-right .ensures ∙ check-same (row (c .before .decided .result)) (own (c .before)) (c .before .decided .ensures .each))
+check-is c = sym (c .check-right .ensures ∙ check-same (row (c .before .decided .result)) (own (c .before)) (has (c .before) .each))
 
 check-passed : (c : tie.Else2) → checkRight (own (c .before .before)) ≡ true
 check-passed c = check-is (c .before) ∙ not-false (c .before .check-right .result) (c .if2 .left)
@@ -73,7 +77,7 @@ check-passed c = check-is (c .before) ∙ not-false (c .before .check-right .res
 reserved-is : (c : tie.After-reserved-right) → reservedRight (own (c .before .before .before)) ≡ c .reserved-right .result
 reserved-is c =
     let d = c .before .before .before in
-    sym (c .reserved-right .ensures ∙ reserved-same (row (d .decided .result)) (own d) (d .decided .ensures .each))
+    sym (c .reserved-right .ensures ∙ reserved-same (row (d .decided .result)) (own d) (has d .each))
 
 reserved-passed : (c : tie.Else3) → reservedRight (own (c .before .before .before .before)) ≡ true
 reserved-passed c = reserved-is (c .before) ∙ not-false (c .before .reserved-right .result) (c .if3 .left)
@@ -85,7 +89,7 @@ same-is c =
     let streams = c .before .streams-of in
     sym
     (c .same .ensures
-    ∙ sent-same (m d) (v d) (row (d .decided .result)) (own d) (row (streams .result)) (streams .ensures .each) (d .decided .ensures .each))
+    ∙ sent-same (m d) (v d) (row (d .decided .result)) (own d) (row (streams .result)) (streams .ensures .each) (has d .each))
 
 packet-bits-requires : tie.Need-packet-bits-requires
 packet-bits-requires c κs = search needs
@@ -103,7 +107,9 @@ returns c =
     (verdict-by (modeOf p) (given p) (plain-is p ∙ not-true (p .plain .result) (c .before .if1 .taken)) refl refl refl) (λ e. omega arith)
 
 decided-requires : tie.Need-decided-requires
-decided-requires c κs = search needs
+decided-requires c κs =
+    let s = start (c .before) in
+    (s .pre .2 .long, λ i lt. omega (arith, own-read-lt (s .args .mode) (s .args .own .now) (s .pre .2) i lt))
 
 check-right-requires : tie.Need-check-right-requires
 check-right-requires c κs = search needs
@@ -169,7 +175,7 @@ returns-5 c =
           (same-is compared ∙ not-false (compared .same .result) (c .before .if4 .left));
       accepted = λ e.
           holds-as 0 (byteOf (own d))
-          (λ j lt. lowest-bytes x (λ i l. bits d i) j lt ∙ byte-same x (own d) (d .decided .ensures .each) j lt)
+          (λ j lt. lowest-bytes x (λ i l. bits d i) j lt ∙ byte-same x (own d) (has d .each) j lt)
           (c .bytes-of .ensures);
       refused = λ ne. absurd (ne refl);
     }

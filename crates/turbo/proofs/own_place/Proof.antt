@@ -1,67 +1,49 @@
 -- `own_place` goes from a data bit's place back through the bit interleaver.
-use mathlib.Core.Path.{_≡_, _∙_}
-use mathlib.Core.Logic.{⊎-elim}
+use mathlib.Core.Path.{_≡_, refl}
 use Prim.Native.Nat.{ℕ, _+_, _*_, _/_, _%_, _<_}
 use native.Mathlib.Omega.{arith}
 use borrow.Author.Needs.{needs}
-use borrow.Author.Tests.{ne-eqb}
 use Rattle.rules.specs.Interleaver.{bitDeinterleaved}
-use Rattle.rules.specs.Turbo.{dataPlace}
-use Rattle.rules.specs.Slots.{rate, packetBits}
-use Rattle.turbo.proofs.Modes.{sent-lt}
+use Rattle.rules.specs.Turbo.{codedLength, dataPlace}
+use Rattle.turbo.proofs.Modes.{own-lt, own-sent-lt}
 use Rattle.turbo.proofs.own_place.Statement.{statement}
 use Rattle.turbo.proofs.own_place.Tie as tie
 
-packet-bits-requires : tie.Need-packet-bits-requires
-packet-bits-requires c κs = search needs
+data-place-requires : tie.Need-data-place-requires
+data-place-requires c κs = search needs
 
-mul-n : tie.Need-mul-n
-mul-n c = search needs
+-- what is answered
+answer : (c : tie.After-data-place)
+    → let a = c .before .args in
+    let L : ℕ = codedLength (a .rate) 994 in
+    let r : ℕ = 4 * (c .data-place .result % a .rows) + c .data-place .result / a .rows in
+    (r ≡ bitDeinterleaved L (dataPlace (a .rate) (a .i))) × (r < 3000)
+answer c =
+    let a = c .before .args in
+    let L : ℕ = codedLength (a .rate) 994 in
+    let quarter : L / 4 ≡ a .rows = omega (arith, c .before .pre .0) in
+    let is : 4 * (c .data-place .result % a .rows) + c .data-place .result / a .rows ≡ bitDeinterleaved L (dataPlace (a .rate) (a .i)) =
+    rw (quarter, c .data-place .ensures) in
+    (is, omega (arith, own-sent-lt (a .rate) L refl (omega arith) (a .i) (c .before .pre .2)))
 
-mul-n-2 : tie.Need-mul-n-2
-mul-n-2 c = search needs
-
--- the place before the bit interleaver, by both arms
-before : (c : tie.Joined1) → c .if1 .n ≡ dataPlace (rate (c .before .before .args .mode)) (c .before .before .args .i)
-before c = ⊎-elim (λ w. w .1 ∙ rw (w .0 .taken)) (λ w. w .1 ∙ rw (ne-eqb _ _ (w .0 .left))) (c .if1 .came)
-
--- and what is answered
-answer : (c : tie.Joined1)
-    → let rows : ℕ = c .before .packet-bits .result / 4 in
-    4 * (c .if1 .n % rows) + c .if1 .n / rows
-    ≡ bitDeinterleaved (packetBits (c .before .before .args .mode)) (dataPlace (rate (c .before .before .args .mode)) (c .before .before .args .i))
-answer c = rw (before c, c .before .packet-bits .ensures .0)
-
-answer-lt : (c : tie.Joined1)
-    → let rows : ℕ = c .before .packet-bits .result / 4 in 4 * (c .if1 .n % rows) + c .if1 .n / rows < packetBits (c .before .before .args .mode)
-answer-lt c =
-    let start = c .before .before in
-    rw (answer c) (sent-lt (start .args .mode) (start .args .i) (start .pre))
+some : (c : tie.After-data-place) → 0 < c .before .args .rows
+some c = omega (arith, own-lt (c .before .args .rate) (c .before .args .i) (c .before .pre .2))
 
 rem-result : tie.Need-rem-result
-rem-result c = omega arith
+rem-result c = omega (arith, some c)
 
 mul-result : tie.Need-mul-result
-mul-result c = omega (arith, answer-lt (c .before))
+mul-result c = omega (arith, answer c)
 
 div-result : tie.Need-div-result
-div-result c = omega arith
+div-result c = omega (arith, some c)
 
 add-result : tie.Need-add-result
-add-result c = omega (arith, answer-lt (c .before))
+add-result c = omega (arith, answer c)
 
 returns : tie.Need-returns
-returns c = (answer (c .before), answer-lt (c .before))
+returns c = answer c
 
 pub own-place-spec : {M : Type 1} → statement M
 own-place-spec =
-    tie.close
-    (tie.spec
-    packet-bits-requires
-    mul-n
-    mul-n-2
-    rem-result
-    mul-result
-    div-result
-    add-result
-    returns)
+    tie.close (tie.spec data-place-requires rem-result mul-result div-result add-result returns)

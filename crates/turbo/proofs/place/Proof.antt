@@ -1,30 +1,61 @@
--- `place` answers the place of the mode's rate.
-use mathlib.Core.Path.{_≡_}
-use borrow.Author.Tests.{ne-eqb}
-use Rattle.rules.specs.Slots.{rate}
+-- `place` goes by the rate, of which the three arms say the same.
+use mathlib.Core.Path.{_≡_, sym, ap, subst, _∙_}
+use Prim.Native.Nat.{ℕ, _<_}
+use borrow.Author.Needs.{needs}
+use Rattle.rules.specs.Turbo.{codedLength}
+use Rattle.rules.specs.declared.Rate.{Rate}
 use Rattle.turbo.specs.Streams.{place}
-use Rattle.turbo.proofs.Modes.{rate-place-lt}
+use Rattle.turbo.proofs.Streams.{place-lt}
 use Rattle.turbo.proofs.place.Statement.{statement}
 use Rattle.turbo.proofs.place.Tie as tie
 
-place-third-requires : tie.Need-place-third-requires
-place-third-requires c κs = rw (c .if1 .taken) at (c .before .pre)
+-- what an arm asks, and what it answers, where the rate is R'
+module _ (R R' : Rate) (n : ℕ) (is : R ≡ R') (lt : n < codedLength R 994) where
+  asked : n < codedLength R' 994
+  asked = subst (λ (S : Rate). n < codedLength S 994) is lt
+
+  answered : (r : ℕ) → r ≡ place R' n → (r ≡ place R n) × (r < 3988)
+  answered r e =
+      let there = e ∙ ap (λ (S : Rate). place S n) (sym is) in
+      (there, rw there (place-lt R n lt))
+
+enum-told : tie.Need-enum-told
+enum-told c = search needs
 
 place-half-requires : tie.Need-place-half-requires
-place-half-requires c κs = rw (ne-eqb _ _ (c .if1 .left)) at (c .before .pre)
+place-half-requires c κs = asked _ _ _ (c .enum-told .given .1) (c .before .before .pre)
+
+enum-told-2 : tie.Need-enum-told-2
+enum-told-2 c = search needs
+
+place-third-requires : tie.Need-place-third-requires
+place-third-requires c κs = asked _ _ _ (c .enum-told2 .given .1) (c .before .before .pre)
+
+enum-told-3 : tie.Need-enum-told-3
+enum-told-3 c = search needs
+
+place-two-thirds-requires : tie.Need-place-two-thirds-requires
+place-two-thirds-requires c κs = asked _ _ _ (c .enum-told3 .given .1) (c .before .before .pre)
 
 returns : tie.Need-returns
-returns c =
-    let start = c .before .before in
-    let e : c .place-third .result ≡ place (rate (start .args .mode)) (start .args .n) = rw (c .before .if1 .taken) (c .place-third .ensures) in
-    (e, rw e (rate-place-lt (start .args .mode) (start .args .n) (start .pre)))
+returns c = answered _ _ _ (c .before .enum-told .given .1) (c .before .before .before .pre) _ (c .place-half .ensures)
 
 returns-2 : tie.Need-returns-2
-returns-2 c =
-    let start = c .before .before in
-    let e : c .place-half .result ≡ place (rate (start .args .mode)) (start .args .n) =
-    rw (ne-eqb _ _ (c .before .if1 .left)) (c .place-half .ensures) in
-    (e, rw e (rate-place-lt (start .args .mode) (start .args .n) (start .pre)))
+returns-2 c = answered _ _ _ (c .before .enum-told2 .given .1) (c .before .before .before .pre) _ (c .place-third .ensures)
+
+returns-3 : tie.Need-returns-3
+returns-3 c = answered _ _ _ (c .before .enum-told3 .given .1) (c .before .before .before .pre) _ (c .place-two-thirds .ensures)
 
 pub place-spec : {M : Type 1} → statement M
-place-spec = tie.close (tie.spec place-third-requires place-half-requires returns returns-2)
+place-spec =
+    tie.close
+    (tie.spec
+    enum-told
+    place-half-requires
+    enum-told-2
+    place-third-requires
+    enum-told-3
+    place-two-thirds-requires
+    returns
+    returns-2
+    returns-3)

@@ -2,8 +2,8 @@
 use Prim.Native.Nat.{_*_, _/_}
 use native.Mathlib.Omega.{arith}
 use borrow.Author.Needs.{needs}
-use Rattle.rules.specs.Turbo.{half}
-use Rattle.turbo.proofs.Streams.{entry-is, place-by-data, place-by-tail}
+use Rattle.rules.specs.declared.Rate.the-variants.{Half}
+use Rattle.turbo.proofs.Streams.{entry-is, place-by-data, place-by-half-tail}
 use Rattle.turbo.proofs.place_half.Statement.{statement}
 use Rattle.turbo.proofs.place_half.Tie as tie
 
@@ -40,10 +40,10 @@ add-result-2 c = search needs
 returns : tie.Need-returns
 returns c =
     let n = c .before .before .args .n in
-    rw (c .wide .ensures .0, entry-is) (place-by-data half _ tt n (n / 4 * 2) (omega arith) (omega arith))
+    rw (c .wide .ensures .0, entry-is) (place-by-data Half _ tt n (n / 4 * 2) (omega arith) (omega arith))
 
 returns-2 : tie.Need-returns-2
-returns-2 c = rw (c .wide2 .ensures .0, entry-is) (place-by-tail half 6 _ tt (c .before .before .args .n) (omega arith) (omega arith))
+returns-2 c = rw (c .wide2 .ensures .0, entry-is) (place-by-half-tail Half 6 _ tt (c .before .before .args .n) (omega arith) (omega arith))
 
 pub place-half-spec : {M : Type 1} → statement M
 place-half-spec =

@@ -2,8 +2,8 @@
 use Prim.Native.Nat.{_/_}
 use native.Mathlib.Omega.{arith}
 use borrow.Author.Needs.{needs}
-use Rattle.rules.specs.Turbo.{third}
-use Rattle.turbo.proofs.Streams.{entry-is, place-by-data, place-by-tail}
+use Rattle.rules.specs.declared.Rate.the-variants.{Third}
+use Rattle.turbo.proofs.Streams.{entry-is, place-by-data, place-by-half-tail}
 use Rattle.turbo.proofs.place_third.Statement.{statement}
 use Rattle.turbo.proofs.place_third.Tie as tie
 
@@ -37,10 +37,10 @@ add-result-2 c = search needs
 returns : tie.Need-returns
 returns c =
     let n = c .before .before .args .n in
-    rw (c .wide .ensures .0, entry-is) (place-by-data third _ tt n (n / 3) (omega arith) (omega arith))
+    rw (c .wide .ensures .0, entry-is) (place-by-data Third _ tt n (n / 3) (omega arith) (omega arith))
 
 returns-2 : tie.Need-returns-2
-returns-2 c = rw (c .wide2 .ensures .0, entry-is) (place-by-tail third 9 _ tt (c .before .before .args .n) (omega arith) (omega arith))
+returns-2 c = rw (c .wide2 .ensures .0, entry-is) (place-by-half-tail Third 9 _ tt (c .before .before .args .n) (omega arith) (omega arith))
 
 pub place-third-spec : {M : Type 1} → statement M
 place-third-spec =

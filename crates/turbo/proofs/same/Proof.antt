@@ -6,7 +6,7 @@ use native.Mathlib.Omega.{arith}
 use borrow.Author.Needs.{needs}
 use lib.Dec.{eqb}
 use Rattle.rules.specs.Bits.{row}
-use Rattle.rules.specs.Slots.{packetBits}
+use Rattle.rules.specs.Modes.{packetBits}
 use Rattle.turbo.specs.Coded.{sameBits, sentFrom}
 use Rattle.turbo.proofs.Modes.{place-read, place-read-lt}
 use Rattle.laws.specs.Every.{every-next}

@@ -6,7 +6,7 @@ use borrow.Author.Needs.{needs}
 use Rattle.rules.specs.Bits.{row}
 use Rattle.laws.specs.Holds.{Holds}
 use Rattle.laws.specs.Filled.{upTo, holds-first, holds-next, holds-whole}
-use Rattle.rules.specs.Slots.{packetBits}
+use Rattle.rules.specs.Modes.{packetBits}
 use Rattle.turbo.specs.Coded.{sentFrom}
 use Rattle.turbo.proofs.Modes.{place-read, place-read-lt}
 use Rattle.turbo.proofs.send.Statement.{statement}

@@ -5,7 +5,7 @@ use native.Mathlib.Omega.{arith}
 use lib.ListN.{length}
 use borrow.Author.Needs.{needs}
 use Rattle.rules.specs.Bits.{row}
-use Rattle.rules.specs.Slots.{packetBits}
+use Rattle.rules.specs.Modes.{packetBits}
 use Rattle.rules.specs.Block.{packetPart}
 use Rattle.laws.specs.Parts.{part, part-within, part-long, part-at}
 use Rattle.turbo.specs.Blocks.{WeighedTo}
@@ -14,17 +14,17 @@ use Rattle.turbo.proofs.blocks.judge_block.Statement.{statement}
 use Rattle.turbo.proofs.blocks.judge_block.Tie as tie
 
 abbrev Inv-loop : tie.InvT-loop
-Inv-loop mode marks bits addresses places n lost₀ reasons₀ block₀ p₀ lost reasons block p = (p ≤ 16) × WeighedTo p mode marks (row bits) lost reasons block
+Inv-loop mode marks bits addresses places own n lost₀ reasons₀ block₀ p₀ lost reasons block p = (p ≤ 16) × WeighedTo p mode marks (row bits) lost reasons block
 
 abbrev μ-loop : tie.MeasureT-loop
-μ-loop mode marks bits addresses places n lost₀ reasons₀ block₀ p₀ lost reasons block p = 16 - p
+μ-loop mode marks bits addresses places own n lost₀ reasons₀ block₀ p₀ lost reasons block p = 16 - p
 
 -- a packet's bits are within the block's
 within : (n p : ℕ) → n ≤ 3000 → p < 16 → n * p + n ≤ 48000
 within n p h l = omega (arith, part-within n p 16 l)
 
 abbrev start : tie.After-packet-bits Inv-loop μ-loop → tie.Start Inv-loop μ-loop
-start c = c .before .before .before
+start c = c .before .before .before .before
 
 bits-long : (c : tie.Start Inv-loop μ-loop) → length (c .args .t3) ≡ 48000
 bits-long c = search needs
@@ -58,6 +58,9 @@ addresses-requires c κs = search needs
 places-requires : tie.Need-places-requires Inv-loop μ-loop
 places-requires c κs = search needs
 
+own-places-requires : tie.Need-own-places-requires Inv-loop μ-loop
+own-places-requires c κs = search needs
+
 packet-bits-requires : tie.Need-packet-bits-requires Inv-loop μ-loop
 packet-bits-requires c κs = search needs
 
@@ -75,12 +78,15 @@ slice-aggregate-weigh c = search needs
 slice-aggregate-weigh-2 : tie.Need-slice-aggregate-weigh-2 Inv-loop μ-loop
 slice-aggregate-weigh-2 c = search needs
 
+slice-aggregate-weigh-3 : tie.Need-slice-aggregate-weigh-3 Inv-loop μ-loop
+slice-aggregate-weigh-3 c = search needs
+
 marked-requires : tie.Need-marked-requires Inv-loop μ-loop
 marked-requires c κs = search needs
 
 add-weigh : tie.Need-add-weigh Inv-loop μ-loop
 add-weigh c =
-    let i = c .before .before .before in
+    let i = c .before .before .before .before in
     omega (arith, within (i .before .before .packet-bits .result) (i .before .loop .p) (omega arith) (omega arith))
 
 sub-weigh : tie.Need-sub-weigh Inv-loop μ-loop
@@ -90,17 +96,18 @@ part-weigh-start : tie.Need-part-weigh-start Inv-loop μ-loop
 part-weigh-start c = omega arith
 
 part-weigh-end : tie.Need-part-weigh-end Inv-loop μ-loop
-part-weigh-end c = place (c .before .before .before .before)
+part-weigh-end c = place (c .before .before .before .before .before)
 
 weigh-requires : tie.Need-weigh-requires Inv-loop μ-loop
 weigh-requires c κs =
-    let i = c .before .before .before .before .before in
+    let i = c .before .before .before .before .before .before in
     let n = i .before .before .packet-bits in
     let at : ℕ = n .result * i .before .loop .p in
-    let places = i .before .before .before in
+    let own = i .before .before .before in
     let s = start (i .before .before) in (
-      places .before .addresses .ensures,
-      places .places .ensures,
+      own .before .before .addresses .ensures,
+      own .before .places .ensures,
+      own .own-places .ensures,
       omega (arith, part-long at (at + n .result) (s .args .t3) (omega arith) (place i)),
     )
 
@@ -109,7 +116,7 @@ mul-to c = omega arith
 
 with-lost-requires : tie.Need-with-lost-requires Inv-loop μ-loop
 with-lost-requires c κs =
-    let l = c .before .before .before .before .before .before .before .before in
+    let l = c .before .before .before .before .before .before .before .before .before in
     let a = start (l .before) .args in
     (omega arith, weighed-lt (l .loop .p) (a .mode) (a .marks) (row (a .t3)) (l .loop .inv .1))
 
@@ -129,11 +136,11 @@ part-block-start : tie.Need-part-block-start Inv-loop μ-loop
 part-block-start c = omega arith
 
 part-block-end : tie.Need-part-block-end Inv-loop μ-loop
-part-block-end c = omega (arith, c .before .before .before .before .before .before .before .before .before .before .loop .inv .1 .block-is .long)
+part-block-end c = omega (arith, c .before .before .before .before .before .before .before .before .before .before .before .loop .inv .1 .block-is .long)
 
 copy-requires : tie.Need-copy-requires Inv-loop μ-loop
 copy-requires c κs =
-    let l = c .before .before .before .before .before .before .before .before .before .before .before .loop in
+    let l = c .before .before .before .before .before .before .before .before .before .before .before .before .loop in
     let at : ℕ = 122 * l .p in
     let long = l .inv .1 .block-is .long in
     c .before .before .before .before .weigh .ensures .bytes-are .long
@@ -148,7 +155,7 @@ loop-less c = omega arith
 loop-again : tie.Need-loop-again Inv-loop μ-loop
 loop-again c =
     let b = c .before .before .before in
-    let i = b .before .before .before .before .before .before .before .before .before in
+    let i = b .before .before .before .before .before .before .before .before .before .before in
     let l = i .before .loop in
     let n = i .before .before .packet-bits in
     let s = start (i .before .before) in
@@ -174,11 +181,13 @@ judge-block-spec =
     μ-loop
     addresses-requires
     places-requires
+    own-places-requires
     packet-bits-requires
     loop-holds
     mul-at
     slice-aggregate-weigh
     slice-aggregate-weigh-2
+    slice-aggregate-weigh-3
     marked-requires
     add-weigh
     sub-weigh

@@ -52,7 +52,7 @@ module _ (m mark : ℕ) (v : ℕ → ℕ) where
 
 returns : tie.Need-returns
 returns c =
-    let a = c .before .before .before .before .args in
+    let a = c .before .before .before .before .before .args in
     let is = marked-reason (a .mode) (a .mark) (row (a .v .now)) (c .if1 .taken) in
     record { reason-is = sym is; bytes-are = bytes-lost (a .mode) (a .mark) (row (a .v .now)) _ refl (λ e. omega arith) }
 
@@ -61,7 +61,7 @@ judge-with-requires c κs = search needs
 
 returns-2 : tie.Need-returns-2
 returns-2 c =
-    let a = c .before .before .before .before .before .args in
+    let a = c .before .before .before .before .before .before .args in
     weighed (a .mode) (a .mark) (row (a .v .now)) _ (c .before .if1 .left) (c .judge-with .ensures)
 
 pub weigh-spec : {M : Type 1} → statement M
