@@ -1,118 +1,154 @@
--- What is sent at a level decides to the bits that were sent; a block's own cells are all that is heard.
+-- Decisions as the code makes them. What is sent at a level decides to the bits that were sent; a block's own cells are all that is heard.
 use mathlib.Core.Path.{_≡_, refl, sym, _∙_, ap, ap₂}
-use mathlib.Core.Bool.{Bool, true, false}
+use mathlib.Core.Bool.{Bool, true, false, _&&_, _||_}
 use mathlib.Core.List.{List}
-use Prim.Native.Nat.{ℕ, _+_, _*_, _/_, _%_, _<_}
+use Prim.Native.Nat.{ℕ, _+_, _*_, _/_, _%_, _^_, _<_, _≤_}
 use native.Mathlib.Decide.{ℕ-discrete}
-use native.Mathlib.Nat.{mul-pos}
+use native.Mathlib.Nat.{div-add-mod, mod-lt}
 use native.Mathlib.Omega.{arith}
-use lib.Dec.{T, eqb, ltb→lt}
-use lib.Ieee.{Float, nan, inf, fin, binary32, ofBits, neg, lt, le, up, down}
-use lib.Ieee.Fits.{and-l, up-pos}
-use lib.Ieee.Positive.{above, above-of-le}
+use lib.Dec.{eqb, ltb}
+use lib.Ieee.{Float, neg, lt}
 use lib.ListN.{getD}
-use borrow.Author.Tests.{lt-ltb, eq-eqb, ne-eqb}
-use Rattle.rules.specs.Bits.{pick}
-use Rattle.rules.specs.Slots.{slots, symbolOf}
-use Rattle.rules.specs.Points.{part, firstPart, secondPart, decide, zeroPart, doubtful}
-use Rattle.rules.specs.Profile.{isLevel}
+use borrow.Author.Tests.{lt-ltb, le-ltb, eq-eqb, ne-eqb}
+use Rattle.rules.specs.Bits.{pick, bitOf}
+use Rattle.rules.specs.Modes.{partBits, slots, slotBits}
+use Rattle.rules.specs.Slots.{symbolOf}
+use Rattle.rules.specs.Points.{zeroPart, twice, part, firstPart, secondPart, doubtful, signOf, sizeOf, sizeAndSign, decide, bitIn}
 use Rattle.rules.specs.Cells.{pointCell, gridCell, carried}
 use Rattle.rules.specs.Block.{cellFor, heard, partOf}
+use Rattle.rules.specs.declared.Profile.{Profile}
 use Rattle.rules.specs.declared.Cell.{Cell}
 use Rattle.rules.specs.declared.Carried.{Carried}
 use Rattle.rules.specs.declared.Carried.the-variants.{PointOf}
+use Rattle.laws.specs.Levels.{Good, decide-part}
+use Rattle.modes.proofs.Figures.{figures, part-bounds}
+use Rattle.cells.specs.Reading.{signOr}
 use Rattle.cells.proofs.Inverse.{carried-cell}
+use Rattle.cells.proofs.Reading.{point-of-bit}
 
-pub decide-lt : (a : Float) → decide a < 3
-unfolding decide
-decide-lt a = go (lt zeroPart a) (lt a zeroPart)
+-- ---- one part
+
+-- of one bit a part's decision is its sign
+pub decide-one : (w : ℕ) (level a : Float) → w ≡ 1 → signOr 2 a ≡ decide w level a
+unfolding decide signOf
+decide-one w level a e = rw e
+
+module _ (level a : Float) where
+  -- twice the size, and the sign with 4 for a doubtful one
+  abbrev sum : ℕ
+  sum = 2 * sizeOf level a + signOr 4 a
+
+  number : pick (ltb 4 sum) 4 sum ≡ decide 2 level a
+  unfolding decide sizeOf signOf
+  number =
+      go (lt (twice level) a || lt a (neg (twice level))) (lt (neg (twice level)) a && lt a (twice level)) (lt zeroPart a) (lt a zeroPart)
+    where
+      go : (p q r s : Bool)
+          → (let n = 2 * pick p 0 (pick q 1 2) + pick r 0 (pick s 1 4) in pick (ltb 4 n) 4 n)
+          ≡ sizeAndSign (pick p 0 (pick q 1 2)) (pick r 0 (pick s 1 2))
+      go true q true s = refl
+      go true q false true = refl
+      go true q false false = refl
+      go false true true s = refl
+      go false true false true = refl
+      go false true false false = refl
+      go false false true s = refl
+      go false false false true = refl
+      go false false false false = refl
+
+  pub decide-sum : sum ≤ 4 → sum ≡ decide 2 level a
+  decide-sum h = sym (ap (λ (b : Bool). pick b 4 sum) (le-ltb 4 sum h)) ∙ number
+
+  pub decide-over : 4 < sum → 4 ≡ decide 2 level a
+  decide-over h = sym (ap (λ (b : Bool). pick b 4 sum) (lt-ltb 4 sum h)) ∙ number
+
+-- a bit is decided to 0 or 1, or is doubtful
+pub bit-in-lt : (w d j : ℕ) → bitIn w d j < 3
+bit-in-lt w d j = go (eqb d (2 ^ w))
   where
-    go : (b c : Bool) → pick b 0 (pick c 1 doubtful) < 3
-    go true c = omega arith
-    go false true = omega arith
-    go false false = omega arith
+    go : (b : Bool) → pick b doubtful (bitOf w d j) < 3
+    go true = omega arith
+    go false = omega arith
 
-above-level : (a : Float) → T (isLevel a) → T (above a)
-unfolding ofBits
-above-level a h = above-of-le (ofBits binary32 0x0080_0000) a tt (and-l (le (ofBits binary32 0x0080_0000) a) (le a (ofBits binary32 0x7F7F_FFFF)) h)
+-- ---- the block
 
-decide-above : (a : Float) → T (above a) → decide a ≡ 0
-unfolding decide ofBits lt
-decide-above nan h = absurd h
-decide-above (inf true) h = absurd h
-decide-above (inf false) h = refl
-decide-above (fin true m e) h = absurd h
-decide-above (fin false m e) h =
-    let p : 0 < m * up e = mul-pos (ltb→lt 0 m h) (up-pos e) in
-    simp (lt-ltb (0 * down e) (m * up e * 1) (omega arith))
-
-decide-below : (a : Float) → T (above a) → decide (neg a) ≡ 1
-unfolding decide ofBits lt neg
-decide-below nan h = absurd h
-decide-below (inf true) h = absurd h
-decide-below (inf false) h = refl
-decide-below (fin true m e) h = absurd h
-decide-below (fin false m e) h =
-    let p : 0 < m * up e = mul-pos (ltb→lt 0 m h) (up-pos e) in
-    simp (lt-ltb 0 (m * up e * 1 + 0 * down e) (omega arith))
-
--- what is sent at a positive, finite, normal level decides to the bit that was sent
-pub decide-part : (level : Float) (b : ℕ) → T (isLevel level) → b < 2 → decide (part level b) ≡ b
-decide-part level b h l = go (ℕ-discrete b 1)
-  where
-    go : Dec (b ≡ 1) → decide (part level b) ≡ b
-    go (yes e) = simp (eq-eqb b 1 e) (decide-below level (above-level level h) ∙ sym e)
-    go (no n) = simp (ne-eqb b 1 n) (decide-above level (above-level level h) ∙ omega arith)
+pub heard-lt : (P : Profile) (f s : List Float) (t i : ℕ) → heard P f s t i < 3
+unfolding heard
+heard-lt P f s t i = bit-in-lt (partBits (P .mode)) _ (i % partBits (P .mode))
 
 -- two lists that agree at a block's own cells
 abbrev pub SameAt : ℕ → List Float → List Float → Type 0
 SameAt m f g = (t i : ℕ) → t < slots m → i < 500 → getD f (gridCell t i) zeroPart ≡ getD g (gridCell t i) zeroPart
 
 -- the receiver looks only at the block's own cells
-pub heard-own : (m : ℕ) (f s f' s' : List Float) → SameAt m f f' → SameAt m s s'
-    → (t i : ℕ) → t < slots m → i < 1000 → heard f s t i ≡ heard f' s' t i
+pub heard-own : (P : Profile) (f s f' s' : List Float) → SameAt (P .mode) f f' → SameAt (P .mode) s s'
+    → (t i : ℕ) → t < slots (P .mode) → i < slotBits (P .mode) → heard P f s t i ≡ heard P f' s' t i
 unfolding heard
-heard-own m f s f' s' a b t i ht hi =
-    ap decide (ap₂ (pick (eqb (i % 2) 0)) (a t (i / 2) ht (omega arith)) (b t (i / 2) ht (omega arith)))
+heard-own P f s f' s' a b t i ht hi =
+    let w = partBits (P .mode) in
+    let inside = point-of-bit (P .mode) i hi in
+    ap (λ (x : Float). bitIn w (decide w (P .level) x) (i % w))
+    (ap₂ (pick (eqb (i / w % 2) 0)) (a t (i / w / 2) ht inside) (b t (i / w / 2) ht inside))
 
 -- the cell that is written for point i of block slot t
 abbrev pub cellSent : ℕ → Float → (ℕ → ℕ → ℕ) → ℕ → ℕ → Cell
-cellSent m level bits t i = cellFor level bits (carried m (symbolOf t) (pointCell t i))
+cellSent m level bits t i = cellFor (partBits m) level bits (carried m (symbolOf t) (pointCell t i))
 
--- what is sent at a level is heard as it was sent
-pub heard-sent : (m : ℕ) (level : Float) (bits : ℕ → ℕ → ℕ) (f s : List Float)
-    → T (isLevel level)
+-- what is sent at a good level is heard as it was sent
+pub heard-sent : (P : Profile) (bits : ℕ → ℕ → ℕ) (f s : List Float)
+    → Good (partBits (P .mode)) (P .level)
     → ((t i : ℕ) → bits t i < 2)
-    → ((t i : ℕ) → t < slots m → i < 500 → getD f (gridCell t i) zeroPart ≡ firstPart (cellSent m level bits t i))
-    → ((t i : ℕ) → t < slots m → i < 500 → getD s (gridCell t i) zeroPart ≡ secondPart (cellSent m level bits t i))
+    → ((t i : ℕ) → t < slots (P .mode) → i < 500 → getD f (gridCell t i) zeroPart ≡ firstPart (cellSent (P .mode) (P .level) bits t i))
+    → ((t i : ℕ) → t < slots (P .mode) → i < 500 → getD s (gridCell t i) zeroPart ≡ secondPart (cellSent (P .mode) (P .level) bits t i))
     → (t i : ℕ)
-    → t < slots m
-    → i < 1000
-    → heard f s t i ≡ bits t i
+    → t < slots (P .mode)
+    → i < slotBits (P .mode)
+    → heard P f s t i ≡ bits t i
 unfolding heard
-heard-sent m level bits f s hl hb hf hs t i ht hi = go (ℕ-discrete (i % 2) 0)
+heard-sent P bits f s good hb hf hs t i ht hi = go (ℕ-discrete (n % 2) 0)
   where
+    m : ℕ
+    m = P .mode
+
+    level : Float
+    level = P .level
+
+    w : ℕ
+    w = partBits m
+
+    -- bit k of part n, which is one of point j
+    n : ℕ
+    n = i / w
+
+    k : ℕ
+    k = i % w
+
     j : ℕ
-    j = i / 2
+    j = n / 2
+
+    whole : w * n + k ≡ i
+    whole = div-add-mod i w
 
     there : carried m (symbolOf t) (pointCell t j) ≡ PointOf t j
-    there = carried-cell m t j ht (omega arith)
+    there = carried-cell m t j ht (point-of-bit m i hi)
 
-    first : getD f (gridCell t j) zeroPart ≡ part level (bits t (2 * j))
-    first = hf t j ht (omega arith) ∙ ap (λ (k : Carried). firstPart (cellFor level bits k)) there
+    first : getD f (gridCell t j) zeroPart ≡ part w level (λ b. bits t (2 * w * j + b))
+    first = hf t j ht (point-of-bit m i hi) ∙ ap (λ (c : Carried). firstPart (cellFor w level bits c)) there
 
-    second : getD s (gridCell t j) zeroPart ≡ part level (bits t (2 * j + 1))
-    second = hs t j ht (omega arith) ∙ ap (λ (k : Carried). secondPart (cellFor level bits k)) there
+    second : getD s (gridCell t j) zeroPart ≡ part w level (λ b. bits t (2 * w * j + (w + b)))
+    second = hs t j ht (point-of-bit m i hi) ∙ ap (λ (c : Carried). secondPart (cellFor w level bits c)) there
 
-    even : i % 2 ≡ 0 → 2 * j ≡ i
-    even e = omega arith
+    even : n % 2 ≡ 0 → 2 * w * j + k ≡ i
+    even e = let twice : n ≡ 2 * j = omega arith in omega (arith, whole, ap (λ (x : ℕ). w * x) twice)
 
-    odd : ¬ (i % 2 ≡ 0) → 2 * j + 1 ≡ i
-    odd e = omega arith
+    odd : ¬ (n % 2 ≡ 0) → 2 * w * j + (w + k) ≡ i
+    odd e = let twice : n ≡ 2 * j + 1 = omega arith in omega (arith, whole, ap (λ (x : ℕ). w * x) twice)
 
-    go : Dec (i % 2 ≡ 0) → decide (partOf i f s (gridCell t j)) ≡ bits t i
-    go (yes e) =
-        simp (eq-eqb (i % 2) 0 e) (ap decide first ∙ decide-part level (bits t (2 * j)) hl (hb t (2 * j)) ∙ ap (bits t) (even e))
-    go (no n) =
-        simp (ne-eqb (i % 2) 0 n)
-        (ap decide second ∙ decide-part level (bits t (2 * j + 1)) hl (hb t (2 * j + 1)) ∙ ap (bits t) (odd n))
+    decided : (x : Float) (r : ℕ → ℕ) → ((b : ℕ) → r b < 2) → x ≡ part w level r → bitIn w (decide w level x) k ≡ r k
+    decided x r h e =
+        ap (λ (y : Float). bitIn w (decide w level y) k) e
+        ∙ decide-part w level r (figures m .part) good h k (mod-lt i (part-bounds m .0))
+
+    go : Dec (n % 2 ≡ 0) → bitIn w (decide w level (partOf n f s (gridCell t j))) k ≡ bits t i
+    go (yes e) = simp (eq-eqb (n % 2) 0 e) (decided _ (λ b. bits t (2 * w * j + b)) (λ b. hb t _) first ∙ ap (bits t) (even e))
+    go (no ne) = simp (ne-eqb (n % 2) 0 ne) (decided _ (λ b. bits t (2 * w * j + (w + b))) (λ b. hb t _) second ∙ ap (bits t) (odd ne))

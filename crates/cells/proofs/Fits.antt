@@ -8,7 +8,7 @@ use lib.Ieee.{Float}
 use lib.Ieee.Fits.{and-l, and-r}
 use lib.ListN.{length}
 use borrow.Author.Tests.{lt-ltb, eq-eqb}
-use Rattle.rules.specs.Slots.{slots, slotBits, symbols}
+use Rattle.rules.specs.Modes.{slots, slotBits, symbols}
 use Rattle.cells.specs.Symbol.{fitting, Written, WriteRule}
 
 module _ (m symbol bits firsts seconds : ℕ) where

@@ -1,36 +1,65 @@
 -- What a cell carries is the inverse of where a point goes: `carried-cell` and `cell-carried`. So two points never share a cell.
 -- Of the places and interlaces only the eight facts at the head are used.
 use mathlib.Core.Path.{_≡_, refl, sym, _∙_, ap, ap₂, subst}
+use mathlib.Core.Bool.{_&&_}
 use mathlib.Core.List.{List}
 use Prim.Native.Nat.{ℕ, _+_, _-_, _*_, _/_, _%_, _<_, _≤_}
 use native.Mathlib.Decide.{ℕ-discrete, decLt}
 use native.Mathlib.Omega.{arith}
-use lib.Dec.{eqb, ltb, eqb→eq, ltb→lt}
+use lib.Dec.{T, eqb, ltb, eqb→eq, ltb→lt}
+use lib.Ieee.Fits.{and-l, and-r}
 use borrow.Author.Tests.{lt-ltb, le-ltb, le-leb, lt-leb, eq-eqb, ne-eqb}
-use Rattle.rules.specs.Bits.{pick}
-use Rattle.rules.specs.Slots.{slots, symbols, symbolOf, slotNumber}
+use Rattle.rules.specs.Bits.{pick, row}
+use Rattle.rules.specs.Modes.{slots, symbols}
+use Rattle.rules.specs.Slots.{symbolOf, slotNumber}
 use Rattle.rules.specs.Cells.{placeOf, pointAt, interlaceOf, slotOf, cellOf, pointCell}
 use Rattle.rules.specs.Cells.{Belongs, outside, place, belongs, carriedBy, carriedAt, carried}
 use Rattle.rules.specs.declared.Carried.{Carried}
 use Rattle.rules.specs.declared.Carried.the-variants.{Nothing, PointOf}
-use Rattle.rules.proofs.Tables.{places-inside, points-inside, points-of-places, places-of-points}
+use Rattle.rules.proofs.Tables.{order, back, inverse, places-checked}
 use lib.ListN.{getD}
-use Rattle.laws.specs.Every.{every-at}
+use Rattle.laws.specs.Every.{every-at, first-at}
 use Rattle.laws.specs.Holds.{Holds}
 
 -- ---- places are a permutation of 0 to 499, as the rules' own tests say
 
+order-at : (i : ℕ) → i < 500 → row order i ≡ placeOf i
+order-at = first-at 500 placeOf
+
+back-at : (i : ℕ) → i < 500 → row back i ≡ pointAt i
+back-at = first-at 500 pointAt
+
+module _ (i : ℕ) (h : i < 500) where
+  tested : T (inverse i)
+  tested = every-at 500 inverse (places-checked .1) i h
+
+  more : T (ltb (row back i) 500 && (eqb (row back (row order i)) i && eqb (row order (row back i)) i))
+  more = and-r (ltb (row order i) 500) _ tested
+
+  both : T (eqb (row back (row order i)) i && eqb (row order (row back i)) i)
+  both = and-r (ltb (row back i) 500) _ more
+
+  place-below : row order i < 500
+  place-below = ltb→lt _ _ (and-l (ltb (row order i) 500) _ tested)
+
+  point-below : row back i < 500
+  point-below = ltb→lt _ _ (and-l (ltb (row back i) 500) _ more)
+
+  pub place-point : pointAt (placeOf i) ≡ i
+  place-point =
+      ap pointAt (sym (order-at i h)) ∙ sym (back-at (row order i) place-below)
+      ∙ eqb→eq _ _ (and-l (eqb (row back (row order i)) i) _ both)
+
+  pub point-place : placeOf (pointAt i) ≡ i
+  point-place =
+      ap placeOf (sym (back-at i h)) ∙ sym (order-at (row back i) point-below)
+      ∙ eqb→eq _ _ (and-r (eqb (row back (row order i)) i) _ both)
+
 pub place-lt : {i : ℕ} → i < 500 → placeOf i < 500
-place-lt {i} h = ltb→lt _ _ (every-at 500 (λ i. ltb (placeOf i) 500) places-inside i h)
+place-lt {i} h = rw (sym (order-at i h)) (place-below i h)
 
 pub point-lt : {i : ℕ} → i < 500 → pointAt i < 500
-point-lt {i} h = ltb→lt _ _ (every-at 500 (λ i. ltb (pointAt i) 500) points-inside i h)
-
-pub place-point : (i : ℕ) → i < 500 → pointAt (placeOf i) ≡ i
-place-point i h = eqb→eq _ _ (every-at 500 (λ i. eqb (pointAt (placeOf i)) i) points-of-places i h)
-
-pub point-place : (i : ℕ) → i < 500 → placeOf (pointAt i) ≡ i
-point-place i h = eqb→eq _ _ (every-at 500 (λ i. eqb (placeOf (pointAt i)) i) places-of-points i h)
+point-lt {i} h = rw (sym (back-at i h)) (point-below i h)
 
 -- what is looked up in a table of such an order
 pub looked : (f : ℕ → ℕ) (l : List ℕ) (i : ℕ) → Holds 0 500 f l → i < 500 → f i < 500 → (getD l i 0 ≡ f i) × (getD l i 0 < 500)

@@ -2,24 +2,31 @@
 use mathlib.Core.Path.{_≡_}
 use mathlib.Core.Bool.{Bool, true, false, _&&_}
 use mathlib.Core.List.{List}
-use Prim.Native.Nat.{ℕ, _+_, _*_}
+use Prim.Native.Nat.{ℕ, _+_, _*_, _/_, _%_}
 use lib.Dec.{eqb, ltb}
 use lib.Ieee.{Float}
 use lib.ListN.{length, getD}
 use Rattle.rules.specs.Bits.{row}
-use Rattle.rules.specs.Slots.{slots, slotBits, symbols}
-use Rattle.rules.specs.Points.{part, zeroPart, firstPart, secondPart}
+use Rattle.rules.specs.Modes.{partBits, slots, slotBits, symbols}
+use Rattle.rules.specs.Points.{signed, sized, zeroPart, firstPart, secondPart}
 use Rattle.rules.specs.Cells.{carried}
 use Rattle.rules.specs.Block.{cellFor}
 use Rattle.rules.specs.declared.Cell.{Cell}
 use Rattle.laws.specs.Holds.{Holds}
 
--- the parts that the bits make at a level, as a list by bit; bit 0 makes the level
+-- the parts that one bit makes at a level, as a list by bit; bit 0 makes the level
 abbrev pub Signed : Float → List Float → Type 0
-Signed level l = Holds zeroPart 256 (part level) l
+Signed level l = Holds zeroPart 256 (λ b. signed b level) l
 
 abbrev pub levelOf : List Float → Float
 levelOf l = getD l 0 zeroPart
+
+-- the parts that two bits make, by twice the size bit and the sign bit; bits 1 and 0 make the level
+abbrev pub Sized : Float → List Float → Type 0
+Sized level l = Holds zeroPart 4 (λ k. signed (k % 2) (sized (k / 2) level)) l
+
+abbrev pub innerOf : List Float → Float
+innerOf l = getD l 2 zeroPart
 
 -- a block's bits as a list, slot after slot
 abbrev pub slotBit : ℕ → List ℕ → ℕ → ℕ → ℕ
@@ -27,7 +34,7 @@ slotBit m bits t i = row bits (slotBits m * t + i)
 
 -- cell c of a symbol, from the scrambled bits of the block
 abbrev pub symbolCell : ℕ → Float → List ℕ → ℕ → ℕ → Cell
-symbolCell m level bits symbol c = cellFor level (slotBit m bits) (carried m symbol c)
+symbolCell m level bits symbol c = cellFor (partBits m) level (slotBit m bits) (carried m symbol c)
 
 pub record Written (m : ℕ) (level : Float) (bits : List ℕ) (symbol : ℕ) (firsts seconds : List Float) : Type 0 where
   pub firsts-are : Holds zeroPart 4096 (λ c. firstPart (symbolCell m level bits symbol c)) firsts

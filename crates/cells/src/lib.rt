@@ -1,20 +1,23 @@
 // Points, cells and decisions; one symbol's cells written from a block's bits, and a block's bits read from what its cells decide to.
 ghost use mathlib.Core.Path.{_≡_};
+ghost use mathlib.Core.Bool.{true};
+ghost use mathlib.Core.List.{[], _∷_};
 ghost use Prim.Native.Nat.{_+_, _*_, _<_, _≤_};
-ghost use lib.Dec.{ltb};
+ghost use lib.Dec.{eqb, ltb};
+ghost use lib.Ieee.{Float};
 ghost use lib.ListN.{length, getD};
-ghost use Rattle.rules.specs.Bits.{row};
-ghost use Rattle.rules.specs.Slots.{slots, slotBits, symbols};
+ghost use Rattle.rules.specs.Bits.{pick, row};
+ghost use Rattle.rules.specs.Modes.{partBits, slots, slotBits, symbols};
 ghost use Rattle.rules.specs.Points as points;
-ghost use Rattle.rules.specs.Points.{zeroPart, pointOf, firstPart, secondPart};
+ghost use Rattle.rules.specs.Points.{zeroPart, pointOf, firstPart, secondPart, bitIn};
 ghost use Rattle.rules.specs.Cells as rule;
 ghost use Rattle.rules.specs.Pieces.{cellByte, keptBit};
 ghost use Rattle.laws.specs.Holds.{Holds};
 ghost use Rattle.cells.specs.Order.{Places, Points};
 ghost use Rattle.cells.specs.Spot.{belonging};
 ghost use Rattle.cells.specs.Symbol as symbolRule;
-ghost use Rattle.cells.specs.Symbol.{Signed, levelOf, symbolCell, WriteRule};
-ghost use Rattle.cells.specs.Reading.{DecideRule, pointByte, spreadBit, ReadRule};
+ghost use Rattle.cells.specs.Symbol.{Signed, levelOf, Sized, innerOf, symbolCell, Written, WriteRule};
+ghost use Rattle.cells.specs.Reading.{signOr, byteOf, DecideRule, pointByte, spreadBit, ReadRule};
 
 mod place_table;
 mod point_table;
@@ -25,10 +28,10 @@ use rules::Carried;
 use rules::Cell;
 use rules::Point;
 
-// The bits that a point's parts decide to, 2 for a doubtful one.
+// The numbers that a point's two parts decide to.
 pub struct Decision {
-    pub s0: u8,
-    pub s1: u8,
+    pub first: u8,
+    pub second: u8,
 }
 
 // Where a cell is: in no interlace, or at a place of interlace k.
@@ -46,9 +49,9 @@ fn signed(level: f32) -> [f32; 256]
     out
 }
 
-fn point_by(signed: &[f32], s0: u8, s1: u8) -> Point
+fn point_by_signs(signed: &[f32], s0: u8, s1: u8) -> Point
     requires { ⌜ Signed (levelOf (now signed)) (now signed) ⌝ }
-    ensures { λ r. ⌜ r ≡ pointOf (levelOf (now (signed .entry))) s0 s1 ⌝ }
+    ensures { λ r. ⌜ r ≡ pointOf 1 (levelOf (now (signed .entry))) (row (s0 ∷ s1 ∷ [])) ⌝ }
 {
     Point {
         first: signed[s0 as usize],
@@ -56,15 +59,54 @@ fn point_by(signed: &[f32], s0: u8, s1: u8) -> Point
     }
 }
 
-pub fn point_of(level: f32, s0: u8, s1: u8) -> Point
-    ensures { λ r. ⌜ r ≡ pointOf level s0 s1 ⌝ }
+// The four parts that two bits make, at twice the size bit and the sign bit.
+fn sized(level: f32) -> [f32; 4]
+    ensures { λ r. ⌜ Sized level r ⌝ }
 {
-    let signed = signed(level);
-    point_by(&signed, s0, s1)
+    let outer = 3.0 * level;
+    [outer, -outer, level, -level]
 }
 
-pub fn decide(part: f32) -> u8
-    ensures { λ r. ⌜ (r ≡ points.decide part) × (r < 3) ⌝ }
+// Any byte but 1 counts as bit 0. Compiled to no branch.
+fn flag(b: u8) -> usize
+    ensures { λ r. ⌜ (r ≡ pick (eqb b 1) 1 0) × (r < 2) ⌝ }
+{
+    if b == 1 { 1 } else { 0 }
+}
+
+fn part_by(sized: &[f32], s0: u8, s1: u8) -> f32
+    requires { ⌜ Sized (innerOf (now sized)) (now sized) ⌝ }
+    ensures { λ r. ⌜ r ≡ points.part 2 (innerOf (now (sized .entry))) (row (s0 ∷ s1 ∷ [])) ⌝ }
+{
+    sized[2 * flag(s0) + flag(s1)]
+}
+
+fn point_by_sizes(sized: &[f32], s0: u8, s1: u8, s2: u8, s3: u8) -> Point
+    requires { ⌜ Sized (innerOf (now sized)) (now sized) ⌝ }
+    ensures { λ r. ⌜ r ≡ pointOf 2 (innerOf (now (sized .entry))) (row (s0 ∷ s1 ∷ s2 ∷ s3 ∷ [])) ⌝ }
+{
+    Point {
+        first: part_by(sized, s0, s1),
+        second: part_by(sized, s2, s3),
+    }
+}
+
+// Of QPSK the first two bits count.
+pub fn point_of(mode: u8, level: f32, bits: [u8; 4]) -> Point
+    ensures { λ r. ⌜ r ≡ pointOf (partBits mode) level (row bits) ⌝ }
+{
+    if modes::part_bits(mode) == 1 {
+        let signed = signed(level);
+        return point_by_signs(&signed, bits[0], bits[1]);
+    }
+    let sized = sized(level);
+    point_by_sizes(&sized, bits[0], bits[1], bits[2], bits[3])
+}
+
+// The sign bit of a part, and for a doubtful one the number given.
+fn sign_of(part: f32, doubt: u8) -> u8
+    requires { ⌜ 1 ≤ doubt ⌝ }
+    ensures { λ r. ⌜ (r ≡ signOr doubt part) × (r ≤ doubt) ⌝ }
 {
     if part > 0.0 {
         return 0;
@@ -72,33 +114,61 @@ pub fn decide(part: f32) -> u8
     if part < 0.0 {
         return 1;
     }
-    2
+    doubt
 }
 
-pub fn decide_point(p: Point) -> Decision
-    ensures { λ r. ⌜ (r .s0 ≡ points.decide (p .first)) × (r .s1 ≡ points.decide (p .second)) × (r .s0 < 3) × (r .s1 < 3) ⌝ }
+// Twice the size bit of a part, and 4 for a doubtful one.
+fn size_of(level: f32, part: f32) -> u8
+    ensures { λ r. ⌜ (r ≡ 2 * points.sizeOf level part) × (r < 5) ⌝ }
+{
+    let line = 2.0 * level;
+    if part > line {
+        return 0;
+    }
+    if part < -line {
+        return 0;
+    }
+    if part > -line {
+        if part < line {
+            return 2;
+        }
+    }
+    4
+}
+
+// Both bits as a number. Where one is doubtful the sum is 4 or more: so no test of the two is needed, and many parts are decided at a time.
+fn size_and_sign(level: f32, part: f32) -> u8
+    ensures { λ r. ⌜ (r ≡ points.decide 2 level part) × (r < 5) ⌝ }
+{
+    let sum = size_of(level, part) + sign_of(part, 4);
+    if sum > 4 { 4 } else { sum }
+}
+
+// What a part decides to: the number that its bits make, and after the last such number the one for a doubtful part.
+pub fn decide(mode: u8, level: f32, part: f32) -> u8
+    ensures { λ r. ⌜ (r ≡ points.decide (partBits mode) level part) × (r < 5) ⌝ }
+{
+    if modes::part_bits(mode) == 1 {
+        return sign_of(part, 2);
+    }
+    size_and_sign(level, part)
+}
+
+pub fn decide_point(mode: u8, level: f32, p: Point) -> Decision
+    ensures { λ r. ⌜ (r .first ≡ points.decide (partBits mode) level (p .first)) × (r .second ≡ points.decide (partBits mode) level (p .second))
+        × (r .first < 5) × (r .second < 5) ⌝ }
 {
     Decision {
-        s0: decide(p.first),
-        s1: decide(p.second),
+        first: decide(mode, level, p.first),
+        second: decide(mode, level, p.second),
     }
-}
-
-// How many slots a block has.
-fn slot_count(mode: u8) -> usize
-    ensures { λ r. ⌜ (r ≡ slots mode) × (r < 4096) ⌝ }
-{
-    if mode == 0 {
-        return 48;
-    }
-    32
 }
 
 // Whether a symbol is one of the grid.
 fn in_grid(mode: u8, symbol: usize) -> bool
     ensures { λ r. ⌜ r ≡ ltb symbol (symbols mode) ⌝ }
 {
-    symbol < (slot_count(mode) + 6) / 7
+    symbol < modes::symbol_count(mode)
 }
 
 // The places of a slot's points, and the points at the places: to be had once for a symbol or a block, since each call copies the table.
@@ -165,9 +235,9 @@ fn spot_of(c: usize) -> Spot
     Spot::Place(c % 8, (c - 48) / 8)
 }
 
-// What interlace k carries at a place.
-fn carried_at(points: &[u16], mode: u8, symbol: usize, k: usize, place: usize) -> Carried
-    requires { ⌜ Points (now points) × (symbol < 4096) × (k < 8) × (place < 500) ⌝ }
+// What interlace k carries at a place, in a mode that has n slots.
+fn carried_at(points: &[u16], mode: u8, n: usize, symbol: usize, k: usize, place: usize) -> Carried
+    requires { ⌜ Points (now points) × (n ≡ slots mode) × (symbol < 4096) × (k < 8) × (place < 500) ⌝ }
     ensures { λ r. ⌜ r ≡ rule.carriedAt mode symbol (rule.place k place) ⌝ }
 {
     let slot = slot_of(symbol, k);
@@ -175,20 +245,20 @@ fn carried_at(points: &[u16], mode: u8, symbol: usize, k: usize, place: usize) -
         return Carried::Nothing;
     }
     let t = 7 * symbol + slot - 1;
-    if t < slot_count(mode) {
+    if t < n {
         return Carried::PointOf(t, point_at(points, place));
     }
     Carried::Nothing
 }
 
 // What cell c of a symbol carries.
-fn carried_in(points: &[u16], mode: u8, symbol: usize, c: usize) -> Carried
-    requires { ⌜ Points (now points) × (symbol < 4096) ⌝ }
+fn carried_in(points: &[u16], mode: u8, n: usize, symbol: usize, c: usize) -> Carried
+    requires { ⌜ Points (now points) × (n ≡ slots mode) × (symbol < 4096) ⌝ }
     ensures { λ r. ⌜ r ≡ rule.carried mode symbol c ⌝ }
 {
     match spot_of(c) {
         Spot::Outside => Carried::Nothing,
-        Spot::Place(k, place) => carried_at(points, mode, symbol, k, place),
+        Spot::Place(k, place) => carried_at(points, mode, n, symbol, k, place),
     }
 }
 
@@ -197,22 +267,62 @@ pub fn carried(mode: u8, symbol: usize, c: usize) -> Carried
     ensures { λ r. ⌜ r ≡ rule.carried mode symbol c ⌝ }
 {
     if in_grid(mode, symbol) {
-        return carried_in(&points(), mode, symbol, c);
+        return carried_in(&points(), mode, modes::slot_count(mode), symbol, c);
     }
     Carried::Nothing
 }
 
-// The cell of a symbol whose block has these scrambled bits.
-fn cell_at(points: &[u16], signed: &[f32], mode: u8, bits: &[u8], symbol: usize, c: usize) -> Cell
-    requires { ⌜ Points (now points) × Signed (levelOf (now signed)) (now signed)
-        × (symbol < 4096) × (length (now bits) ≡ slotBits mode * slots mode) ⌝ }
+// Where the bits of point i of block slot t begin in a block. A slot has so many bits, and a point so many.
+fn first_bit(mode: u8, slot: usize, point: usize, t: usize, i: usize) -> usize
+    requires { ⌜ (slot ≡ slotBits mode) × (point ≡ 2 * partBits mode) × (t < slots mode) × (i < 500) ⌝ }
+    ensures { λ r. ⌜ (r ≡ slotBits mode * t + 2 * partBits mode * i) × (r + 2 * partBits mode ≤ slotBits mode * slots mode) ⌝ }
+{
+    slot * t + point * i
+}
+
+// The cell of a symbol whose block has these scrambled bits, in a mode that has n slots: where a part has one bit, and where it has two.
+fn cell_by_signs(
+    points: &[u16],
+    signed: &[f32],
+    mode: u8,
+    n: usize,
+    slot: usize,
+    bits: &[u8],
+    symbol: usize,
+    c: usize,
+) -> Cell
+    requires { ⌜ Points (now points) × Signed (levelOf (now signed)) (now signed) × (partBits mode ≡ 1)
+        × (n ≡ slots mode) × (slot ≡ slotBits mode) × (symbol < 4096) × (length (now bits) ≡ slotBits mode * slots mode) ⌝ }
     ensures { λ r. ⌜ r ≡ symbolCell mode (levelOf (now (signed .entry))) (now (bits .entry)) symbol c ⌝ }
 {
-    match carried_in(points, mode, symbol, c) {
+    match carried_in(points, mode, n, symbol, c) {
         Carried::Nothing => Cell::Silent,
         Carried::PointOf(t, i) => {
-            let at = 1000 * t + 2 * i;
-            Cell::Carries(point_by(signed, bits[at], bits[at + 1]))
+            let at = first_bit(mode, slot, 2, t, i);
+            Cell::Carries(point_by_signs(signed, bits[at], bits[at + 1]))
+        }
+    }
+}
+
+fn cell_by_sizes(
+    points: &[u16],
+    sized: &[f32],
+    mode: u8,
+    n: usize,
+    slot: usize,
+    bits: &[u8],
+    symbol: usize,
+    c: usize,
+) -> Cell
+    requires { ⌜ Points (now points) × Sized (innerOf (now sized)) (now sized) × (partBits mode ≡ 2)
+        × (n ≡ slots mode) × (slot ≡ slotBits mode) × (symbol < 4096) × (length (now bits) ≡ slotBits mode * slots mode) ⌝ }
+    ensures { λ r. ⌜ r ≡ symbolCell mode (innerOf (now (sized .entry))) (now (bits .entry)) symbol c ⌝ }
+{
+    match carried_in(points, mode, n, symbol, c) {
+        Carried::Nothing => Cell::Silent,
+        Carried::PointOf(t, i) => {
+            let at = first_bit(mode, slot, 4, t, i);
+            Cell::Carries(point_by_sizes(sized, bits[at], bits[at + 1], bits[at + 2], bits[at + 3]))
         }
     }
 }
@@ -243,10 +353,58 @@ fn fitting(mode: u8, symbol: usize, bits: usize, firsts: usize, seconds: usize) 
     if !in_grid(mode, symbol) {
         return false;
     }
-    bits == 1000 * slot_count(mode)
+    bits == modes::block_bits(mode)
 }
 
-// One symbol's 4096 cells, in rising order. Answers whether they were written.
+// One symbol's 4096 cells, in rising order, where a part has one bit.
+fn write_by_signs(
+    mode: u8,
+    level: f32,
+    bits: &[u8],
+    symbol: usize,
+    firsts: &mut [f32],
+    seconds: &mut [f32],
+)
+    requires { ⌜ (symbolRule.fitting mode symbol (length (now bits)) (length (now firsts)) (length (now seconds)) ≡ true) × (partBits mode ≡ 1) ⌝ }
+    ensures { λ _. ⌜ Written mode level (now (bits .entry)) symbol (now (firsts .exit)) (now (seconds .exit)) ⌝ }
+{
+    let n = modes::slot_count(mode);
+    let slot = modes::slot_bits(mode);
+    let points = points();
+    let signed = signed(level);
+    for c in 0..4096 {
+        let cell = cell_by_signs(&points, &signed, mode, n, slot, bits, symbol, c);
+        let parts = parts_of(cell);
+        firsts[c] = parts.first;
+        seconds[c] = parts.second;
+    }
+}
+
+// The same where it has two.
+fn write_by_sizes(
+    mode: u8,
+    level: f32,
+    bits: &[u8],
+    symbol: usize,
+    firsts: &mut [f32],
+    seconds: &mut [f32],
+)
+    requires { ⌜ (symbolRule.fitting mode symbol (length (now bits)) (length (now firsts)) (length (now seconds)) ≡ true) × (partBits mode ≡ 2) ⌝ }
+    ensures { λ _. ⌜ Written mode level (now (bits .entry)) symbol (now (firsts .exit)) (now (seconds .exit)) ⌝ }
+{
+    let n = modes::slot_count(mode);
+    let slot = modes::slot_bits(mode);
+    let points = points();
+    let sized = sized(level);
+    for c in 0..4096 {
+        let cell = cell_by_sizes(&points, &sized, mode, n, slot, bits, symbol, c);
+        let point = parts_of(cell);
+        firsts[c] = point.first;
+        seconds[c] = point.second;
+    }
+}
+
+// One symbol's cells. Answers whether they were written.
 pub fn write_symbol(
     mode: u8,
     level: f32,
@@ -261,14 +419,11 @@ pub fn write_symbol(
     if !fitting(mode, symbol, bits.len(), firsts.len(), seconds.len()) {
         return false;
     }
-    let points = points();
-    let signed = signed(level);
-    for c in 0..4096 {
-        let cell = cell_at(&points, &signed, mode, bits, symbol, c);
-        let parts = parts_of(cell);
-        firsts[c] = parts.first;
-        seconds[c] = parts.second;
+    if modes::part_bits(mode) == 1 {
+        write_by_signs(mode, level, bits, symbol, firsts, seconds);
+        return true;
     }
+    write_by_sizes(mode, level, bits, symbol, firsts, seconds);
     true
 }
 
@@ -304,17 +459,41 @@ fn point_in(firsts: &[f32], seconds: &[f32], c: usize) -> Point
     }
 }
 
-// A cell's decisions in one byte.
-fn cell_byte(p: Point) -> u8
-    ensures { λ r. ⌜ r ≡ cellByte (p .first) (p .second) ⌝ }
+// A cell's decisions in one byte, where a part has one bit, and where it has two.
+fn byte_of_signs(p: Point) -> u8
+    ensures { λ r. ⌜ ((level : Float) → r ≡ cellByte 1 level (p .first) (p .second)) ⌝ }
 {
-    let d = decide_point(p);
-    d.s0 + 3 * d.s1
+    sign_of(p.first, 2) + 3 * sign_of(p.second, 2)
 }
 
-// What each cell decides to, in a byte each. Answers whether the lists are of one length; else nothing is written.
-pub fn decide_cells(firsts: &[f32], seconds: &[f32], out: &mut [u8]) -> bool
-    ensures { λ r. ⌜ DecideRule (now (firsts .entry)) (now (seconds .entry)) (now (out .entry)) (now (out .exit)) r ⌝ }
+fn byte_of_sizes(level: f32, p: Point) -> u8
+    ensures { λ r. ⌜ r ≡ cellByte 2 level (p .first) (p .second) ⌝ }
+{
+    size_and_sign(level, p.first) + 5 * size_and_sign(level, p.second)
+}
+
+// What each cell decides to, in a byte each. Each of the two is a loop of its own, so that many cells are decided at a time.
+fn decide_signs(firsts: &[f32], seconds: &[f32], out: &mut [u8])
+    requires { ⌜ (length (now firsts) ≡ length (now out)) × (length (now seconds) ≡ length (now out)) ⌝ }
+    ensures { λ _. ⌜ ((level : Float) → Holds 0 (length (now (out .entry))) (byteOf 1 level (now (firsts .entry)) (now (seconds .entry))) (now (out .exit))) ⌝ }
+{
+    for c in 0..out.len() {
+        out[c] = byte_of_signs(point_in(firsts, seconds, c));
+    }
+}
+
+fn decide_sizes(level: f32, firsts: &[f32], seconds: &[f32], out: &mut [u8])
+    requires { ⌜ (length (now firsts) ≡ length (now out)) × (length (now seconds) ≡ length (now out)) ⌝ }
+    ensures { λ _. ⌜ Holds 0 (length (now (out .entry))) (byteOf 2 level (now (firsts .entry)) (now (seconds .entry))) (now (out .exit)) ⌝ }
+{
+    for c in 0..out.len() {
+        out[c] = byte_of_sizes(level, point_in(firsts, seconds, c));
+    }
+}
+
+// Answers whether the lists are of one length; else nothing is written.
+pub fn decide_cells(mode: u8, level: f32, firsts: &[f32], seconds: &[f32], out: &mut [u8]) -> bool
+    ensures { λ r. ⌜ DecideRule mode level (now (firsts .entry)) (now (seconds .entry)) (now (out .entry)) (now (out .exit)) r ⌝ }
 {
     if firsts.len() != out.len() {
         return false;
@@ -322,9 +501,11 @@ pub fn decide_cells(firsts: &[f32], seconds: &[f32], out: &mut [u8]) -> bool
     if seconds.len() != out.len() {
         return false;
     }
-    for c in 0..out.len() {
-        out[c] = cell_byte(point_in(firsts, seconds, c));
+    if modes::part_bits(mode) == 1 {
+        decide_signs(firsts, seconds, out);
+        return true;
     }
+    decide_sizes(level, firsts, seconds, out);
     true
 }
 
@@ -341,41 +522,81 @@ fn slot_bytes(mode: u8, t: usize, places: &[u16], cells: &[u8]) -> [u8; 500]
     out
 }
 
-// The two decisions of each byte. A step of its own, so that the bytes stand side by side and many are divided at a time.
-fn spread(bytes: &[u8], bits: &mut [u8])
-    requires { ⌜ (length (now bytes) ≡ 500) × (length (now bits) ≡ 1000) ⌝ }
-    ensures { λ _. ⌜ Holds 0 1000 (spreadBit (row (now (bytes .entry)))) (now (bits .exit)) ⌝ }
+// A bit of a decision, 2 where it is doubtful: the one of a part, or the two.
+fn only_bit(d: u8) -> u8
+    ensures { λ r. ⌜ r ≡ bitIn 1 d 0 ⌝ }
+{
+    if d < 3 { d } else { d % 2 }
+}
+
+fn size_bit(d: u8) -> u8
+    ensures { λ r. ⌜ r ≡ bitIn 2 d 0 ⌝ }
+{
+    if d == 4 { 2 } else { d / 2 % 2 }
+}
+
+fn sign_bit(d: u8) -> u8
+    ensures { λ r. ⌜ r ≡ bitIn 2 d 1 ⌝ }
+{
+    if d == 4 { 2 } else { d % 2 }
+}
+
+// The bits of each byte's two decisions. A step of its own, so that the bytes stand side by side and many are divided at a time.
+fn spread_signs(bytes: &[u8], bits: &mut [u8])
+    requires { ⌜ (length (now bytes) ≡ 500) × (length (now bits) ≡ 2 * 500) ⌝ }
+    ensures { λ _. ⌜ Holds 0 (2 * 500) (spreadBit 1 (row (now (bytes .entry)))) (now (bits .exit)) ⌝ }
 {
     for i in 0..500 {
         let b = bytes[i];
         bits[2 * i] = b % 3;
-        bits[2 * i + 1] = b / 3;
+        bits[2 * i + 1] = only_bit(b / 3);
     }
 }
 
-// The 1000 bits of block slot t.
-fn read_slot(mode: u8, t: usize, places: &[u16], cells: &[u8], bits: &mut [u8])
-    requires { ⌜ (t < slots mode) × Places (now places) × (length (now cells) ≡ 4096 * symbols mode) × (length (now bits) ≡ slotBits mode) ⌝ }
-    ensures { λ _. ⌜ Holds 0 (slotBits mode) (keptBit (row (now (cells .entry))) t) (now (bits .exit)) ⌝ }
+fn spread_sizes(bytes: &[u8], bits: &mut [u8])
+    requires { ⌜ (length (now bytes) ≡ 500) × (length (now bits) ≡ 4 * 500) ⌝ }
+    ensures { λ _. ⌜ Holds 0 (4 * 500) (spreadBit 2 (row (now (bytes .entry)))) (now (bits .exit)) ⌝ }
 {
-    spread(&slot_bytes(mode, t, places, cells), bits);
+    for i in 0..500 {
+        let first = bytes[i] % 5;
+        let second = bytes[i] / 5;
+        bits[4 * i] = size_bit(first);
+        bits[4 * i + 1] = sign_bit(first);
+        bits[4 * i + 2] = size_bit(second);
+        bits[4 * i + 3] = sign_bit(second);
+    }
+}
+
+// The bits of block slot t, in a mode that has w bits a part.
+fn read_slot(mode: u8, w: usize, t: usize, places: &[u16], cells: &[u8], bits: &mut [u8])
+    requires { ⌜ (w ≡ partBits mode) × (t < slots mode) × Places (now places) × (length (now cells) ≡ 4096 * symbols mode) × (length (now bits) ≡ slotBits mode) ⌝ }
+    ensures { λ _. ⌜ Holds 0 (slotBits mode) (keptBit mode (row (now (cells .entry))) t) (now (bits .exit)) ⌝ }
+{
+    let bytes = slot_bytes(mode, t, places, cells);
+    if w == 1 {
+        spread_signs(&bytes, bits);
+        return;
+    }
+    spread_sizes(&bytes, bits);
 }
 
 // A block's bits from the bytes of the grid's cells. Answers whether there were as many cells and bits as the mode has; else nothing is written.
 pub fn read_block(mode: u8, cells: &[u8], bits: &mut [u8]) -> bool
     ensures { λ r. ⌜ ReadRule mode (now (cells .entry)) (now (bits .entry)) (now (bits .exit)) r ⌝ }
 {
-    let n = slot_count(mode);
-    if cells.len() != 4096 * ((n + 6) / 7) {
+    if cells.len() != 4096 * modes::symbol_count(mode) {
         return false;
     }
-    if bits.len() != 1000 * n {
+    if bits.len() != modes::block_bits(mode) {
         return false;
     }
+    let n = modes::slot_count(mode);
+    let slot = modes::slot_bits(mode);
+    let w = modes::part_bits(mode);
     let places = places();
     for t in 0..n {
-        let at = 1000 * t;
-        read_slot(mode, t, &places, cells, &mut bits[at..at + 1000]);
+        let at = slot * t;
+        read_slot(mode, w, t, &places, cells, &mut bits[at..at + slot]);
     }
     true
 }

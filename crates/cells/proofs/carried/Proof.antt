@@ -1,11 +1,11 @@
 -- `cells::carried` meets its contract.
 use mathlib.Core.Path.{sym, _∙_}
 use native.Mathlib.Omega.{arith}
-use borrow.Author.Needs.{needs}
 use borrow.Author.Tests.{ltb-true, ltb-false}
-use Rattle.rules.specs.Slots.{symbols}
+use Rattle.rules.specs.Modes.{symbols}
 use Rattle.cells.proofs.Reading.{slots-lt}
 use Rattle.cells.proofs.Inverse.{carried-past}
+use borrow.Author.Needs.{needs}
 use Rattle.cells.proofs.carried.Statement.{statement}
 use Rattle.cells.proofs.carried.Tie as tie
 
@@ -18,11 +18,15 @@ points-requires c κs = tt
 slice-aggregate-carried-in : tie.Need-slice-aggregate-carried-in
 slice-aggregate-carried-in c = search needs
 
+slot-count-requires : tie.Need-slot-count-requires
+slot-count-requires c κs = search needs
+
 carried-in-requires : tie.Need-carried-in-requires
 carried-in-requires c κs =
-    let a = c .before .before .before .before .args in
-    let inside = ltb-true (a .symbol) (symbols (a .mode)) (sym (c .before .before .before .in-grid .ensures) ∙ c .before .before .if1 .taken) in
-    (c .before .points .ensures, omega (arith, slots-lt (a .mode)))
+    let p = c .before .before in
+    let a = p .before .before .before .args in
+    let inside = ltb-true (a .symbol) (symbols (a .mode)) (sym (p .before .before .in-grid .ensures) ∙ p .before .if1 .taken) in
+    (p .points .ensures, c .slot-count .ensures .0, omega (arith, slots-lt (a .mode)))
 
 returns : tie.Need-returns
 returns c = c .carried-in .ensures
@@ -34,4 +38,13 @@ returns-2 c =
     sym (carried-past (a .mode) (a .symbol) (a .c) past)
 
 pub carried-spec : {M : Type 1} → statement M
-carried-spec = tie.close (tie.spec in-grid-requires points-requires slice-aggregate-carried-in carried-in-requires returns returns-2)
+carried-spec =
+    tie.close
+    (tie.spec
+    in-grid-requires
+    points-requires
+    slice-aggregate-carried-in
+    slot-count-requires
+    carried-in-requires
+    returns
+    returns-2)

@@ -1,20 +1,40 @@
--- `cells::decide` meets its contract, by the two tests.
+-- `cells::decide` meets its contract, by the number of bits that a part has.
+use mathlib.Core.Path.{_≡_, _∙_, ap}
+use Prim.Native.Nat.{ℕ}
 use native.Mathlib.Omega.{arith}
-use Rattle.rules.specs.Points.{decide}
+use Rattle.rules.specs.Modes.{partBits}
+use Rattle.rules.specs.Points as points
+use Rattle.cells.proofs.Deciding.{decide-one}
+use borrow.Author.Needs.{needs}
 use Rattle.cells.proofs.decide.Statement.{statement}
 use Rattle.cells.proofs.decide.Tie as tie
 
+part-bits-requires : tie.Need-part-bits-requires
+part-bits-requires c κs = search needs
+
+sign-of-requires : tie.Need-sign-of-requires
+sign-of-requires c κs = search needs
+
 returns : tie.Need-returns
-unfolding decide
-returns c = (simp (c .if1 .taken), omega arith)
+returns c =
+    let a = c .before .before .before .args in
+    (c .sign-of .ensures .0 ∙ decide-one (partBits (a .mode)) (a .level) (a .part) (omega arith), omega arith)
+
+size-and-sign-requires : tie.Need-size-and-sign-requires
+size-and-sign-requires c κs = search needs
 
 returns-2 : tie.Need-returns-2
-unfolding decide
-returns-2 c = (simp (c .before .if1 .left, c .if2 .taken), omega arith)
-
-returns-3 : tie.Need-returns-3
-unfolding decide
-returns-3 c = (simp (c .before .if1 .left, c .if2 .left), omega arith)
+returns-2 c =
+    let a = c .before .before .before .args in
+    let two : 2 ≡ partBits (a .mode) = omega arith in
+    (c .size-and-sign .ensures .0 ∙ ap (λ (w : ℕ). points.decide w (a .level) (a .part)) two, omega arith)
 
 pub decide-spec : {M : Type 1} → statement M
-decide-spec = tie.close (tie.spec returns returns-2 returns-3)
+decide-spec =
+    tie.close
+    (tie.spec
+    part-bits-requires
+    sign-of-requires
+    returns
+    size-and-sign-requires
+    returns-2)

@@ -1,8 +1,8 @@
 -- `cells::fitting` meets its contract, a test for each part.
 use mathlib.Core.Path.{sym, _∙_}
 use native.Mathlib.Omega.{arith}
-use borrow.Author.Needs.{needs}
 use borrow.Author.Tests.{eq-eqb, ne-eqb, not-true, not-false}
+use borrow.Author.Needs.{needs}
 use Rattle.cells.proofs.fitting.Statement.{statement}
 use Rattle.cells.proofs.fitting.Tie as tie
 
@@ -25,17 +25,14 @@ returns-3 c =
       sym (c .before .in-grid .ensures) ∙ not-true _ (c .if3 .taken),
     )
 
-slot-count-requires : tie.Need-slot-count-requires
-slot-count-requires c κs = search needs
-
-mul-result : tie.Need-mul-result
-mul-result c = search needs
+block-bits-requires : tie.Need-block-bits-requires
+block-bits-requires c κs = search needs
 
 returns-4 : tie.Need-returns-4
 returns-4 c =
     let a = c .before .before .before .before .before .args in
     rw (
-      c .slot-count .ensures .0,
+      c .block-bits .ensures .0,
       eq-eqb (a .firsts) 4096 (omega arith),
       eq-eqb (a .seconds) 4096 (omega arith),
       sym (c .before .before .in-grid .ensures) ∙ not-false _ (c .before .if3 .left),
@@ -49,6 +46,5 @@ fitting-spec =
     returns-2
     in-grid-requires
     returns-3
-    slot-count-requires
-    mul-result
+    block-bits-requires
     returns-4)

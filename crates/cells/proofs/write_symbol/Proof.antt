@@ -1,123 +1,62 @@
--- `cells::write_symbol` meets its contract. The loop's invariant: each of the two lists has the parts of the cells before c.
-use mathlib.Core.Path.{_≡_, refl, sym, _∙_, ap}
+-- `cells::write_symbol` meets its contract, by the number of bits that a part has.
+use mathlib.Core.Path.{refl, sym, _∙_}
 use mathlib.Core.Bool.{true≢false}
-use Prim.Native.Nat.{_-_, _≤_}
 use native.Mathlib.Omega.{arith}
-use lib.Ieee.{Float}
-use lib.ListN.{length, getD}
-use borrow.Author.Needs.{needs}
 use borrow.Author.Tests.{not-true, not-false}
-use Rattle.rules.specs.Points.{zeroPart, firstPart, secondPart}
-use Rattle.cells.specs.Symbol.{symbolCell}
-use Rattle.laws.specs.Holds.{Holds}
-use Rattle.laws.specs.Filled.{upTo, holds-first, holds-next, holds-whole}
-use Rattle.cells.proofs.Reading.{slots-lt}
-use Rattle.cells.proofs.Signs.{signed-level, signed-own}
-use Rattle.cells.proofs.Fits.{Fits, fits}
+use borrow.Author.Needs.{needs}
 use Rattle.cells.proofs.write_symbol.Statement.{statement}
 use Rattle.cells.proofs.write_symbol.Tie as tie
 
-abbrev Inv-loop : tie.InvT-loop
-Inv-loop mode level bits symbol firsts₀ seconds₀ points signed c₀ firsts seconds c =
-    (c ≤ 4096)
-    × Holds zeroPart 4096 (upTo c (λ k. firstPart (symbolCell mode level bits symbol k)) (λ k. getD firsts₀ k zeroPart)) firsts
-    × Holds zeroPart 4096 (upTo c (λ k. secondPart (symbolCell mode level bits symbol k)) (λ k. getD seconds₀ k zeroPart)) seconds
-
-abbrev μ-loop : tie.MeasureT-loop
-μ-loop mode level bits symbol firsts₀ seconds₀ points signed c₀ firsts seconds c = 4096 - c
-
-fitting-requires : tie.Need-fitting-requires Inv-loop μ-loop
+fitting-requires : tie.Need-fitting-requires
 fitting-requires c κs = search needs
 
-returns : tie.Need-returns Inv-loop μ-loop
+returns : tie.Need-returns
 returns c =
     let no = not-true _ (c .if1 .taken) in
     record { answer = sym no ∙ c .before .fitting .ensures; done = λ e. absurd (true≢false (sym e)); kept = λ _. (refl, refl) }
 
--- the symbol can be written
-passed : (c : tie.Else1 Inv-loop μ-loop)
-    → (let a = c .before .before .before .before .before .args in
-    Fits (a .mode) (a .symbol) (length (a .bits .now)) (length (a .firsts .now)) (length (a .seconds .now)))
-passed c = fits _ _ _ _ _ (sym (c .before .fitting .ensures) ∙ not-false _ (c .if1 .left))
+part-bits-requires : tie.Need-part-bits-requires
+part-bits-requires c κs = search needs
 
-points-requires : tie.Need-points-requires Inv-loop μ-loop
-points-requires c κs = tt
-
-signed-requires : tie.Need-signed-requires Inv-loop μ-loop
-signed-requires c κs = tt
-
--- the call's start
-abbrev start : tie.After-signed Inv-loop μ-loop → tie.Start Inv-loop μ-loop
-start c = c .before .before .before .before .before .before .before
-
-loop-holds : tie.Need-loop-holds Inv-loop μ-loop
-loop-holds c = (
-  search needs,
-  holds-first _ _ zeroPart (record { long = passed (c .before .before) .firsts-long; each = λ k l. refl }),
-  holds-first _ _ zeroPart (record { long = passed (c .before .before) .seconds-long; each = λ k l. refl }),
-)
-
-slice-aggregate-cell-at : tie.Need-slice-aggregate-cell-at Inv-loop μ-loop
-slice-aggregate-cell-at c = search needs
-
-slice-aggregate-cell-at-2 : tie.Need-slice-aggregate-cell-at-2 Inv-loop μ-loop
-slice-aggregate-cell-at-2 c = search needs
-
-cell-at-requires : tie.Need-cell-at-requires Inv-loop μ-loop
-cell-at-requires c κs =
-    let p = c .before .before .before .before in
-    let a = start p .args in
-    let ok = passed (p .before .before) in
-    (p .before .points .ensures, signed-own (a .level) (p .signed .ensures), omega (arith, ok .in-grid, slots-lt (a .mode)), ok .bits-long)
-
-parts-of-requires : tie.Need-parts-of-requires Inv-loop μ-loop
-parts-of-requires c κs = search needs
-
-mul-firsts : tie.Need-mul-firsts Inv-loop μ-loop
-mul-firsts c = search needs
-
-slice-write-firsts : tie.Need-slice-write-firsts Inv-loop μ-loop
-slice-write-firsts c = omega arith
-
-mul-seconds : tie.Need-mul-seconds Inv-loop μ-loop
-mul-seconds c = search needs
-
-slice-write-seconds : tie.Need-slice-write-seconds Inv-loop μ-loop
-slice-write-seconds c = search needs
-
-add-c : tie.Need-add-c Inv-loop μ-loop
-add-c c = omega arith
-
-loop-less : tie.Need-loop-less Inv-loop μ-loop
-loop-less c = omega arith
-
-loop-again : tie.Need-loop-again Inv-loop μ-loop
-loop-again c =
-    let l = c .before .before .before .before .before in
-    let a = start (l .before) .args in
-    let e : c .before .cell-at .result ≡ symbolCell (a .mode) (a .level) (a .bits .now) (a .symbol) (l .loop .c) =
-    c .before .cell-at .ensures
-    ∙ ap (λ (x : Float). symbolCell (a .mode) x (a .bits .now) (a .symbol) (l .loop .c)) (signed-level (a .level) (l .before .signed .ensures)) in
-    let inv = l .loop .inv in (
-      omega arith,
-      holds-next _ _ zeroPart _ _ (omega arith) (c .parts-of .ensures .0 ∙ ap firstPart e) (inv .1),
-      holds-next _ _ zeroPart _ _ (omega arith) (c .parts-of .ensures .1 ∙ ap secondPart e) (inv .2),
-    )
-
-same-length : tie.Need-same-length Inv-loop μ-loop
-same-length c = c .before .loop .inv .1 .long ∙ sym (passed (c .before .before .before .before) .firsts-long)
-
-same-length-2 : tie.Need-same-length-2 Inv-loop μ-loop
-same-length-2 c = c .before .loop .inv .2 .long ∙ sym (passed (c .before .before .before .before) .seconds-long)
-
-returns-2 : tie.Need-returns-2 Inv-loop μ-loop
-returns-2 c =
-    let inv = c .before .loop .inv in
+write-by-signs-requires : tie.Need-write-by-signs-requires
+write-by-signs-requires c κs =
     let e = c .before .before .before .before in
+    (sym (e .before .fitting .ensures) ∙ not-false _ (e .if1 .left), omega arith)
+
+same-length : tie.Need-same-length
+same-length c = search needs
+
+same-length-2 : tie.Need-same-length-2
+same-length-2 c = search needs
+
+returns-2 : tie.Need-returns-2
+returns-2 c =
+    let p = c .before .before .before .before in
+    let e = p .before .before .before .before .before in
     record {
       answer = sym (not-false _ (e .if1 .left)) ∙ e .before .fitting .ensures;
-      done = λ _.
-          record { firsts-are = holds-whole _ _ zeroPart _ (omega arith) (inv .1); seconds-are = holds-whole _ _ zeroPart _ (omega arith) (inv .2) };
+      done = λ _. p .write-by-signs .ensures;
+      kept = λ e. absurd (true≢false e);
+    }
+
+write-by-sizes-requires : tie.Need-write-by-sizes-requires
+write-by-sizes-requires c κs =
+    let e = c .before .before .before .before in
+    (sym (e .before .fitting .ensures) ∙ not-false _ (e .if1 .left), omega arith)
+
+same-length-3 : tie.Need-same-length-3
+same-length-3 c = search needs
+
+same-length-4 : tie.Need-same-length-4
+same-length-4 c = search needs
+
+returns-3 : tie.Need-returns-3
+returns-3 c =
+    let p = c .before .before .before .before in
+    let e = p .before .before .before .before .before in
+    record {
+      answer = sym (not-false _ (e .if1 .left)) ∙ e .before .fitting .ensures;
+      done = λ _. p .write-by-sizes .ensures;
       kept = λ e. absurd (true≢false e);
     }
 
@@ -125,24 +64,14 @@ pub write-symbol-spec : {M : Type 1} → statement M
 write-symbol-spec =
     tie.close
     (tie.spec
-    Inv-loop
-    μ-loop
     fitting-requires
     returns
-    points-requires
-    signed-requires
-    loop-holds
-    slice-aggregate-cell-at
-    slice-aggregate-cell-at-2
-    cell-at-requires
-    parts-of-requires
-    mul-firsts
-    slice-write-firsts
-    mul-seconds
-    slice-write-seconds
-    add-c
-    loop-less
-    loop-again
+    part-bits-requires
+    write-by-signs-requires
     same-length
     same-length-2
-    returns-2)
+    returns-2
+    write-by-sizes-requires
+    same-length-3
+    same-length-4
+    returns-3)
