@@ -14,14 +14,10 @@ use Rattle.rules.specs.Demands.{Names}
 use Rattle.rules.specs.Profile.{fields, only, _or_, fault, inRange}
 use Rattle.rules.specs.declared.Answer.{Answer}
 use Rattle.rules.specs.declared.Profile.{Profile}
-use Rattle.profile.proofs.Table.{Good, good-from, from-named, first-passed, first-stays}
+use Rattle.profile.proofs.Table.{Good, good-from, from-named, first-passed, first-stays, named-not-zero}
 use Rattle.profile.proofs.Entries.{laws}
 
--- zero names no field
-pub named-not-zero : (n : ℕ) → T (namesField n) → ¬ (n ≡ 0)
-named-not-zero n t z = subst (λ (k : ℕ). T (namesField k)) z t
-
--- nor does a number at which cells are read
+-- a number at which cells are read names no field
 pub named-unread : (n : ℕ) → T (namesField n) → ¬ T (hasRead n)
 named-unread n t h =
     let named : (k : ℕ) → T (eqb n k) → T (namesField k) = λ k e. subst (λ (x : ℕ). T (namesField x)) (eqb→eq n k e) t in
@@ -41,7 +37,7 @@ pub record Faulty (P : Profile) : Type 0 where
 pub by-fault : (P : Profile) → Fine P ⊎ Faulty P
 unfolding inRange fault
 by-fault P =
-    ⊎-elim (λ g. let e = good-from fields 0 P g in inl (record { each = g; range = rw e tt; none = e }))
+    ⊎-elim (λ g. let e = good-from fields 0 P laws g in inl (record { each = g; range = rw e tt; none = e }))
     (λ t. inr (record { outside = λ r. named-not-zero (fault P .number) t (eqb→eq (fault P .number) 0 r); named = t }))
     (from-named fields 0 P laws)
 

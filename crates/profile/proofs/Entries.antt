@@ -1,10 +1,10 @@
 -- The five entries of the table of fields obey the laws of a field, and a profile that is filled with the fields of P is P.
 use mathlib.Core.Path.{_≡_, refl, sym, ap, ap₂, _∙_}
-use mathlib.Core.Bool.{Bool, true, false, not, _||_}
+use mathlib.Core.Bool.{Bool, true, false, not, _&&_, _||_}
 use mathlib.Core.List.{List, [], _∷_, _++_}
-use Prim.Native.Nat.{ℕ, _+_, _-_, _*_, _/_, _^_, _<_, _≤_}
+use Prim.Native.Nat.{ℕ, _+_, _-_, _*_, _^_, _<_, _≤_}
 use native.Mathlib.Omega.{arith}
-use mathlib.Core.Logic.{⊎-elim}
+use mathlib.Core.Logic.{_⊎_, inl, inr, ⊎-elim}
 use mir.Facts.{or-yes}
 use lib.Dec.{T, eqb, ltb, ltb→lt, eqb→eq, lit<}
 use native.Mathlib.Decide.{decLt}
@@ -15,11 +15,14 @@ use lib.ListN.{length, take, drop, replicate, take-append-drop, length-drop, len
 use lib.Seq.{length-take-le, take-at, getD-take, getD-drop, ext-getD}
 use Rattle.rules.specs.Bits.{pick, row}
 use Rattle.rules.specs.Outer.{isK}
-use Rattle.rules.specs.Slots.{isMode, slots}
-use Rattle.rules.specs.Profile.{number, words, allBytes, wordBytes, each, in20, isLevel, fields, blank}
+use Rattle.rules.specs.Modes.{isMode, slots}
+use Rattle.modes.proofs.Figures.{figures}
+use Rattle.rules.specs.Answers.{namesField}
+use Rattle.rules.specs.Profile.{number, words, allBytes, wordBytes, each, in20, isLevel, sends, levelInMode, only, fields, blank}
+use Rattle.rules.specs.declared.Answer.{Answer}
 use Rattle.rules.specs.declared.Profile.{Profile}
 use Rattle.rules.specs.Profile.{Shape, Whole}
-use Rattle.profile.proofs.Tests.{good-apart}
+use Rattle.profile.proofs.Tests.{allGood, good-apart}
 use Rattle.profile.proofs.Words.{Bytes, all-bytes, bytes-length, word-read, word-written, words-length, words-read, good-low, words-written, zeros}
 use Rattle.profile.proofs.Table.{Laws, end, _&_, Ordered, Good, filled}
 
@@ -66,11 +69,7 @@ level-written s e b g =
 -- ---- the seeds
 
 pub slots-most : (m : ℕ) → slots m ≤ 48
-slots-most m = go (eqb m 0)
-  where
-    go : (b : Bool) → 16 * pick b 3000 2000 / 1000 ≤ 48
-    go true = omega arith
-    go false = omega arith
+slots-most m = figures m .slots-most
 
 seeds-length : (m : ℕ) (l : List ℕ) → length l ≡ 48 → length (allBytes (take (slots m) l)) ≡ 4 * slots m
 seeds-length m l e =
@@ -99,6 +98,19 @@ seeds-written : (n : ℕ) (s : List ℕ) → length s ≡ 4 * n → Bytes s → 
 seeds-written n s e b =
     ap allBytes (take-at (words n s) (replicate (48 - n) 0) n (words-length n s)) ∙ words-written n s e b
 
+-- ---- one number under a test, and whatever else is asked; and a mode that can't send the level
+
+pub single : (b c : Bool) → T ((b && true) && c) → T b
+single b c t = and-l b true (and-l (b && true) c t)
+
+level-named : (P : Profile) → (levelInMode P .number ≡ 0) ⊎ T (namesField (levelInMode P .number))
+level-named P = go (sends (P .mode) (P .level))
+  where
+    go : (b : Bool)
+        → (let a : Answer = pick b (only 0) (record { number = 41; place = 38 }) in (a .number ≡ 0) ⊎ T (namesField (a .number)))
+    go true = inl refl
+    go false = inr tt
+
 -- ---- the entries, in the table's order
 
 pub laws : Laws fields
@@ -106,6 +118,7 @@ laws =
     record {
       tagged = omega arith;
       named = tt;
+      also-named = λ P. inl refl;
       short = λ P. omega arith;
       measured = λ P S. omega (arith, bytes-length (P .masks), S .masks);
       each = λ P g. all-bytes (P .masks);
@@ -114,30 +127,34 @@ laws =
     & record {
       tagged = omega arith;
       named = tt;
+      also-named = λ P. inl refl;
       short = λ P. omega arith;
       measured = λ P S. refl;
       each = λ P g. all-bytes (toBits binary32 (P .level) ∷ []);
-      back = λ p s e b g. level-written s e b (and-l (isLevel (ofBits binary32 (number s))) true g);
+      back = λ p s e b g. level-written s e b (single (isLevel (ofBits binary32 (number s))) true g);
     }
     & record {
       tagged = omega arith;
       named = tt;
+      also-named = level-named;
       short = λ P. omega arith;
       measured = λ P S. refl;
-      each = λ P g. (omega (arith, ltb→lt (P .mode) 2 (and-l (isMode (P .mode)) true g)), tt);
+      each = λ P g. (omega (arith, ltb→lt (P .mode) 5 (single (isMode (P .mode)) (eqb (levelInMode P .number) 0) g)), tt);
       back = λ p s e b g. byte-written s e;
     }
     & record {
       tagged = omega arith;
       named = tt;
+      also-named = λ P. inl refl;
       short = λ P. omega arith;
       measured = λ P S. refl;
-      each = λ P g. (k-low (P .k) (and-l (isK (P .k)) true g), tt);
+      each = λ P g. (k-low (P .k) (single (isK (P .k)) true g), tt);
       back = λ p s e b g. byte-written s e;
     }
     & record {
       tagged = omega arith;
       named = tt;
+      also-named = λ P. inl refl;
       short = λ P. omega (arith, slots-most (P .mode));
       measured = λ P S. seeds-length (P .mode) (P .seeds) (S .seeds);
       each = λ P g. all-bytes (take (slots (P .mode)) (P .seeds));
@@ -146,7 +163,7 @@ laws =
     & end
 
 pub ordered : Ordered fields
-ordered = search
+ordered = (search, search, search, search, (search, search, search, search, search))
 
 -- what is filled from a value's bytes is the value
 pub whole : (P : Profile) → Shape P → Whole P → filled fields blank P ≡ P
@@ -167,11 +184,13 @@ pub good-whole : (P : Profile) → Good fields P → Whole P
 good-whole P g =
     let n = slots (P .mode) in
     let l = P .seeds in
-    let both = good-apart (each 4 in20 (take n l)) (each 4 (eqb 0) (drop n l)) (g .1 .1 .1 .1 .0) in
+    let used = each 4 in20 (take n l) in
+    let unused = each 4 (eqb 0) (drop n l) in
+    let both = good-apart used unused (and-l (allGood (used ++ unused)) true (g .1 .1 .1 .1 .0)) in
     let rest : (i : ℕ) → n ≤ i → row l i ≡ 0 = λ i h.
     ap (row l) (sym (back n i h)) ∙ sym (getD-drop n l (i - n) 0) ∙ zeros (drop n l) (both .1) (i - n) in
     record {
-      masks = good-low in20 in20-low (P .masks) (g .0);
+      masks = good-low in20 in20-low (P .masks) (and-l (allGood (each 4 in20 (P .masks))) true (g .0));
       seeds = λ i. each-low n l (good-low in20 in20-low (take n l) (both .0)) rest i (decLt i n);
       unused = rest;
     }

@@ -6,4 +6,5 @@ pub mod Words
 pub mod Table
 pub mod Entries
 pub mod AtFault
+pub mod InRange
 pub mod RoundTrip

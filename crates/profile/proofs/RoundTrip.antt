@@ -12,15 +12,15 @@ use lib.Seq.{take-append-seam}
 use Rattle.rules.specs.Answers.{namesField, isAnswer, hasRead}
 use Rattle.rules.specs.Demands.{Names}
 use Rattle.rules.specs.Bits.{pick, row}
-use Rattle.rules.specs.Slots.{slots}
+use Rattle.rules.specs.Modes.{slots}
 use Rattle.rules.specs.Profile.{Shape, Whole, fields, blank, fault, inRange, reading, readAs, headed, spelt, written, writing, largest}
 use Rattle.rules.specs.declared.Answer.{Answer}
 use Rattle.rules.specs.declared.Profile.{Profile}
 use Rattle.rules.specs.declared.Reading.{Reading}
 use Rattle.rules.specs.declared.Writing.{Writing}
 use Rattle.profile.proofs.Words.{bytes-of, bytes-at}
-use Rattle.profile.proofs.AtFault.{fine, by-fault, named-not-zero, named-unread, named-told, or-fine, or-faulty, fault-names}
-use Rattle.profile.proofs.Table.{good-from, table-read, table-written, table-answer, table-refused, table-spelt, table-length, table-bytes}
+use Rattle.profile.proofs.AtFault.{fine, by-fault, named-unread, named-told, or-fine, or-faulty, fault-names}
+use Rattle.profile.proofs.Table.{named-not-zero, good-from, table-read, table-written, table-answer, table-refused, table-spelt, table-length, table-bytes}
 use Rattle.profile.proofs.Entries.{laws, ordered, whole, good-whole}
 
 -- what is written of a profile in range
@@ -84,7 +84,7 @@ pub written-read : (s : List ℕ)
 unfolding inRange fault written
 written-read s b z =
     let w = table-written fields blank s laws ordered (bytes-of s b) z in
-    writing-good (reading s .profile) (rw (good-from fields 0 (reading s .profile) (w .0)) tt) ∙ ap good (w .1)
+    writing-good (reading s .profile) (rw (good-from fields 0 (reading s .profile) laws (w .0)) tt) ∙ ap good (w .1)
 
 -- for bytes whose headers and lengths are right, reading answers what the value so read is refused with, or the value
 pub read-refused : (s : List ℕ) → T (headed fields blank s) → reading s ≡ readAs (spelt fields blank s)

@@ -15,7 +15,7 @@ use lib.Seq.{length-take-le, take-at, drop-at}
 use borrow.Author.Tests.{eq-eqb, eqb-true, ne-eqb, le-ltb, ltb-false, not-false}
 use Rattle.rules.specs.Bits.{pick, row}
 use Rattle.rules.specs.Answers.{namesField}
-use Rattle.rules.specs.Profile.{Field, faultFrom, faultOf, fieldBytes, headed, only, refused, spelt, walk}
+use Rattle.rules.specs.Profile.{Field, _or_, faultFrom, faultOf, faulty, fieldBytes, headed, only, refused, spelt, walk}
 use Rattle.rules.specs.declared.Answer.{Answer}
 use Rattle.rules.specs.declared.Profile.{Profile}
 use Rattle.rules.specs.declared.Reading.{Reading}
@@ -25,14 +25,15 @@ use Rattle.profile.proofs.Words.{Bytes, bytes-apart, bytes-both}
 
 -- ---- the laws
 
--- every number of a field is in its range
+-- every number of a field is in its range, and the value finds nothing at fault in a field before it
 abbrev pub good : Field → Profile → Bool
-good f p = allGood (f .tested p)
+good f p = allGood (f .tested p) && eqb (f .also p .number) 0
 
 -- of one field
 pub record Lawful (f : Field) : Type 0 where
   pub tagged : f .tag < 256
   pub named : T (namesField (f .refusal))
+  pub also-named : (P : Profile) → (f .also P .number ≡ 0) ⊎ T (namesField (f .also P .number))
   pub short : (P : Profile) → f .due P < 65536
   pub measured : (P : Profile) → Shape P → length (f .bytes P) ≡ f .due P
   pub each : (P : Profile) → T (good f P) → Bytes (f .bytes P)
@@ -53,30 +54,21 @@ abbrev pub Keeps : {A : Type 0} → (Profile → A) → List Field → Type 0
 Keeps h [] = Unit {0}
 Keeps h (f ∷ fs) = ((p : Profile) (s : List ℕ) → h (f .with p s) ≡ h p) × Keeps h fs
 
--- the length due is known by what was read before the field, and the range and the bytes by what was read up to it
+-- the length due is known by what was read before the field, and what is at fault and the bytes by what was read up to it
 abbrev pub Ordered : List Field → Type 0
 Ordered [] = Unit {0}
-Ordered (f ∷ fs) = Keeps (f .due) (f ∷ fs) × Keeps (f .tested) fs × Keeps (f .bytes) fs × Ordered fs
+Ordered (f ∷ fs) = Keeps (f .due) (f ∷ fs) × Keeps (f .tested) fs × Keeps (f .also) fs × Keeps (f .bytes) fs × Ordered fs
 
--- every field of P is in its range
+-- a field that finds the same in two profiles finds both good or neither
+same-good : (f : Field) {p q : Profile} → f .tested p ≡ f .tested q → f .also p ≡ f .also q → good f p ≡ good f q
+same-good f e₁ e₂ = λ i. allGood (e₁ i) && eqb (e₂ i .number) 0
+
+-- every field of P is good
 abbrev pub Good : List Field → Profile → Type 0
 Good [] P = Unit {0}
 Good (f ∷ fs) P = T (good f P) × Good fs P
 
 -- ---- what is at fault
-
--- a field finds nothing at fault in numbers that are in their ranges
-pub fault-good : (f : Field) (at : ℕ) (p : Profile) → good f p ≡ true → faultOf f at p ≡ only 0
-fault-good f at p g =
-    ⊎-elim (λ w. w .1) (λ w. absurd (subst T (sym g ∙ w .0) tt)) (faulty-test (f .refusal) (at + 3) (f .tested p))
-
--- and in others something, by its own number
-pub fault-bad : (f : Field) (at : ℕ) (p : Profile) → (good f p ≡ true) ⊎ (faultOf f at p .number ≡ f .refusal)
-fault-bad f at p = ⊎-elim (λ w. inl (w .0)) (λ w. inr (w .1)) (faulty-test (f .refusal) (at + 3) (f .tested p))
-
-pub no-fault : (f : Field) → T (namesField (f .refusal)) → (at : ℕ) (p : Profile) → faultOf f at p .number ≡ 0 → good f p ≡ true
-no-fault f named at p z =
-    ⊎-elim (λ g. g) (λ n. absurd (subst (λ (k : ℕ). T (namesField k)) (sym n ∙ z) named)) (fault-bad f at p)
 
 -- the first of two answers, by its number
 pub first-passed : (a b : Answer) → a .number ≡ 0 → pick (eqb (a .number) 0) b a ≡ b
@@ -85,27 +77,68 @@ first-passed a b z = rw (eq-eqb (a .number) 0 z)
 pub first-stays : (a b : Answer) → (a .number ≡ 0 → ⊥) → pick (eqb (a .number) 0) b a ≡ a
 first-stays a b ne = rw (ne-eqb (a .number) 0 ne)
 
--- nothing is at fault in a profile exactly where every field is in its range; what else is found names a field
-pub good-from : (fs : List Field) (at : ℕ) (P : Profile) → Good fs P → faultFrom fs at P ≡ only 0
-good-from [] at P g = refl
-good-from (f ∷ fs) at P g =
-    first-passed (faultOf f at P) (faultFrom fs (at + 3 + f .due P) P)
-    (ap (λ (a : Answer). a .number) (fault-good f at P (is-true (good f P) (g .0))))
-    ∙ good-from fs (at + 3 + f .due P) P (g .1)
+-- zero names no field
+pub named-not-zero : (n : ℕ) → T (namesField n) → ¬ (n ≡ 0)
+named-not-zero n t z = subst (λ (k : ℕ). T (namesField k)) z t
+
+number-passed : (a b : Answer) → a .number ≡ 0 → (a or b) .number ≡ b .number
+number-passed a b z = ap (λ (x : Answer). x .number) (first-passed a b z)
+
+named-stays : (a b : Answer) → T (namesField (a .number)) → T (namesField ((a or b) .number))
+named-stays a b t = rw (first-stays a b (named-not-zero (a .number) t)) t
+
+-- a field that asks nothing else finds what its numbers give
+pub alone : (f : Field) (at : ℕ) (p : Profile) → T (namesField (f .refusal)) → f .also p ≡ only 0
+    → faulty (f .refusal) (at + 3) (f .tested p) ≡ faultOf f at p
+alone f at p t e =
+    ⊎-elim (λ w. w .1 ∙ sym (first-passed a (f .also p) (ap (λ (x : Answer). x .number) (w .1)) ∙ e))
+    (λ w. sym (first-stays a (f .also p) (λ z. named-not-zero (f .refusal) t (sym (w .1) ∙ z))))
+    (faulty-test (f .refusal) (at + 3) (f .tested p))
+  where
+    a : Answer
+    a = faulty (f .refusal) (at + 3) (f .tested p)
+
+-- a field that is good finds nothing at fault, and any other something that names a field
+pub by-good : (f : Field) → Lawful f → (at : ℕ) (p : Profile)
+    → ((good f p ≡ true) × (faultOf f at p .number ≡ 0)) ⊎ ((good f p ≡ false) × T (namesField (faultOf f at p .number)))
+by-good f law at p =
+    ⊎-elim
+    (λ w.
+    let z = ap (λ (a : Answer). a .number) (w .1) in
+    ⊎-elim (λ e. inl (rw (w .0, eq-eqb (other .number) 0 e), number-passed own other z ∙ e))
+    (λ t. inr (rw (w .0, ne-eqb (other .number) 0 (named-not-zero (other .number) t)), rw (number-passed own other z) t)) (law .also-named p))
+    (λ w. inr (rw (w .0), named-stays own other (subst (λ (n : ℕ). T (namesField n)) (sym (w .1)) (law .named))))
+    (faulty-test (f .refusal) (at + 3) (f .tested p))
+  where
+    own : Answer
+    own = faulty (f .refusal) (at + 3) (f .tested p)
+
+    other : Answer
+    other = f .also p
+
+pub fault-good : (f : Field) → Lawful f → (at : ℕ) (p : Profile) → good f p ≡ true → faultOf f at p .number ≡ 0
+fault-good f law at p g = ⊎-elim (λ w. w .1) (λ w. absurd (subst T (sym g ∙ w .0) tt)) (by-good f law at p)
+
+pub no-fault : (f : Field) → Lawful f → (at : ℕ) (p : Profile) → faultOf f at p .number ≡ 0 → good f p ≡ true
+no-fault f law at p z = ⊎-elim (λ w. w .0) (λ w. absurd (named-not-zero (faultOf f at p .number) (w .1) z)) (by-good f law at p)
+
+-- nothing is at fault in a profile exactly where every field is good; what else is found names a field
+pub good-from : (fs : List Field) (at : ℕ) (P : Profile) → Laws fs → Good fs P → faultFrom fs at P ≡ only 0
+good-from [] at P end g = refl
+good-from (f ∷ fs) at P (more l L) g =
+    first-passed (faultOf f at P) (faultFrom fs (at + 3 + f .due P) P) (fault-good f l at P (is-true (good f P) (g .0)))
+    ∙ good-from fs (at + 3 + f .due P) P L (g .1)
 
 pub from-named : (fs : List Field) (at : ℕ) (P : Profile) → Laws fs
     → Good fs P ⊎ T (namesField (faultFrom fs at P .number))
 from-named [] at P end = inl tt
 from-named (f ∷ fs) at P (more l L) =
     ⊎-elim
-    (λ g.
-    let e = first-passed (faultOf f at P) rest (ap (λ (a : Answer). a .number) (fault-good f at P g)) in
-    ⊎-elim (λ h. inl (subst T (sym g) tt, h)) (λ t. inr (subst (λ (a : Answer). T (namesField (a .number))) (sym e) t)) (from-named fs _ P L))
-    (λ n.
-    let t : T (namesField (faultOf f at P .number)) = subst (λ (k : ℕ). T (namesField k)) (sym n) (l .named) in
-    let e = first-stays (faultOf f at P) rest (λ z. subst (λ (k : ℕ). T (namesField k)) z t) in
-    inr (subst (λ (a : Answer). T (namesField (a .number))) (sym e) t))
-    (fault-bad f at P)
+    (λ w.
+    let e = number-passed (faultOf f at P) rest (w .1) in
+    ⊎-elim (λ h. inl (subst T (sym (w .0)) tt, h)) (λ t. inr (subst (λ (n : ℕ). T (namesField n)) (sym e) t)) (from-named fs _ P L))
+    (λ w. inr (named-stays (faultOf f at P) rest (w .1)))
+    (by-good f l at P)
   where
     rest : Answer
     rest = faultFrom fs (at + 3 + f .due P) P
@@ -139,11 +172,11 @@ go-on a e h = rw (eq-eqb (a .number) 0 e) h
 three : (n : ℕ) → 3 + n ≡ suc (suc (suc n))
 three n = omega arith
 
-walk-read : {fs : List Field} {p P : Profile} {s : List ℕ} (at : ℕ) → Read fs p s P
+walk-read : {fs : List Field} {p P : Profile} {s : List ℕ} (at : ℕ) → Laws fs → Read fs p s P
     → walk fs at p s ≡ record { number = 0; place = 0; profile = P }
 unfolding walk
-walk-read at done = refl
-walk-read at (next {f} {fs} {p} {P} h l v s e m g r) =
+walk-read at end done = refl
+walk-read at (more law L) (next {f} {fs} {p} {P} h l v s e m g r) =
     let n = 3 + length (v ++ s) in
     rw (three (f .due p), take-at v s (f .due p) m, drop-at v s (f .due p) m, ← three (length (v ++ s)))
     (skip _ (refused (only 5)) (ne-eqb n 0 (omega arith))
@@ -151,8 +184,8 @@ walk-read at (next {f} {fs} {p} {P} h l v s e m g r) =
     (skip _ (refused (only 2)) (ap not (eq-eqb (f .tag) (f .tag) refl))
     (skip _ (refused (only 3)) (ap not (eq-eqb _ _ e))
     (skip _ (refused (only 1)) (le-ltb n (suc (suc (suc (f .due p)))) (omega (arith, length-append v s)))
-    (go-on (faultOf f at (f .with p v)) (ap (λ (a : Answer). a .number) (fault-good f at (f .with p v) g))
-    (walk-read (at + 3 + f .due p) r)))))))
+    (go-on (faultOf f at (f .with p v)) (fault-good f law at (f .with p v) g)
+    (walk-read (at + 3 + f .due p) L r)))))))
 
 zero-number : {q r : Reading} → q ≡ r → r .number ≡ 0 → q .number ≡ 0
 zero-number e z = ap (λ (q : Reading). q .number) e ∙ z
@@ -198,7 +231,7 @@ read-walk (f ∷ fs) at p (a ∷ b ∷ c ∷ s) r (more law L) e z =
     subst (λ (l : List ℕ). Read (f ∷ fs) p l (r .profile))
     (λ i. sym (eqb-true a (f .tag) (not-false _ (t₃ .0))) i ∷ b ∷ c ∷ take-append-drop d s i)
     (next b c (take d s) (drop d s) (eqb-true _ _ (not-false _ (t₄ .0))) (length-take-le d s long)
-    (no-fault f (law .named) at _ (t₆ .0)) (read-walk fs (at + 3 + d) (f .with p (take d s)) (drop d s) r L rest z))
+    (no-fault f law at _ (t₆ .0)) (read-walk fs (at + 3 + d) (f .with p (take d s)) (drop d s) r L rest z))
 
 -- ---- what is written is read
 
@@ -206,17 +239,17 @@ read-filled : (fs : List Field) (p P : Profile) → Laws fs → Ordered fs → S
     → Read fs p (fieldBytes fs P) P
 read-filled [] p P end O S g e = subst (λ (q : Profile). Read [] p [] q) e done
 read-filled (f ∷ fs) p P (more law L) O S g e =
-    let r = read-filled fs (f .with p (f .bytes P)) P L (O .3) S (g .1) e in
+    let r = read-filled fs (f .with p (f .bytes P)) P L (O .4) S (g .1) e in
     let d = kept (f .due) r (O .0 .1) ∙ O .0 .0 p (f .bytes P) in
     next (f .due P / 256) (f .due P % 256) (f .bytes P) (fieldBytes fs P)
     (div-add-mod' (f .due P) 256 ∙ d)
     (law .measured P S ∙ d)
-    (ap allGood (sym (kept (f .tested) r (O .1))) ∙ is-true (good f P) (g .0))
+    (sym (same-good f (kept (f .tested) r (O .1)) (kept (f .also) r (O .2))) ∙ is-true (good f P) (g .0))
     r
 
 pub table-read : (fs : List Field) (p P : Profile) → Laws fs → Ordered fs → Shape P → Good fs P → filled fs p P ≡ P
     → walk fs 0 p (fieldBytes fs P) ≡ record { number = 0; place = 0; profile = P }
-table-read fs p P L O S g e = walk-read 0 (read-filled fs p P L O S g e)
+table-read fs p P L O S g e = walk-read 0 L (read-filled fs p P L O S g e)
 
 -- ---- what reads well is what is written
 
@@ -225,13 +258,13 @@ written-of : {fs : List Field} {p P : Profile} {s : List ℕ} → Read fs p s P 
 written-of done end O b = (tt, refl)
 written-of (next {f} {fs} {p} {P} h l v s e m g r) (more law L) O b =
     let b' = bytes-apart v s (b .1 .1 .1) in
-    let w = written-of r L (O .3) (b' .1) in
+    let w = written-of r L (O .4) (b' .1) in
     let d : f .due P ≡ h * 256 + l = kept (f .due) r (O .0 .1) ∙ O .0 .0 p v ∙ sym e in
     let e₁ : f .due P / 256 ≡ h = omega (arith, b .1 .1 .0) in
     let e₂ : f .due P % 256 ≡ l = omega (arith, b .1 .1 .0) in
     let t : T (good f (f .with p v)) = subst T (sym g) tt in
-    let e₃ : f .bytes P ≡ v = kept (f .bytes) r (O .2) ∙ law .back p v m (b' .0) t in
-    ((subst T (ap allGood (sym (kept (f .tested) r (O .1)))) t, w .0), λ i. f .tag ∷ e₁ i ∷ e₂ i ∷ e₃ i ++ w .1 i)
+    let e₃ : f .bytes P ≡ v = kept (f .bytes) r (O .3) ∙ law .back p v m (b' .0) t in
+    ((subst T (sym (same-good f (kept (f .tested) r (O .1)) (kept (f .also) r (O .2)))) t, w .0), λ i. f .tag ∷ e₁ i ∷ e₂ i ∷ e₃ i ++ w .1 i)
 
 pub table-written : (fs : List Field) (p : Profile) (s : List ℕ) → Laws fs → Ordered fs → Bytes s → walk fs 0 p s .number ≡ 0
     → Good fs (walk fs 0 p s .profile) × (fieldBytes fs (walk fs 0 p s .profile) ≡ s)
@@ -247,15 +280,13 @@ module _ (Q : Reading → Type 0) (done : (p : Profile) → Q (record { number =
   or-refused true n r t q = t
   or-refused false n r t q = q
 
-  or-named : (f : Field) → T (namesField (f .refusal)) → (at : ℕ) (p : Profile) (r : Reading) → Q r
+  or-named : (f : Field) → Lawful f → (at : ℕ) (p : Profile) (r : Reading) → Q r
       → Q (let a = faultOf f at p in pick (eqb (a .number) 0) r (refused a))
-  or-named f t at p r q =
+  or-named f law at p r q =
       let a = faultOf f at p in
-      ⊎-elim (λ g. subst Q (sym (go-on a (ap (λ (b : Answer). b .number) (fault-good f at p g)) refl)) q)
-      (λ n.
-      let names : T (namesField (a .number)) = subst (λ (k : ℕ). T (namesField k)) (sym n) t in
-      rw (ne-eqb (a .number) 0 (λ z. subst (λ (k : ℕ). T (namesField k)) z names)) (named a names))
-      (fault-bad f at p)
+      ⊎-elim (λ w. subst Q (sym (go-on a (w .1) refl)) q)
+      (λ w. rw (ne-eqb (a .number) 0 (named-not-zero (a .number) (w .1))) (named a (w .1)))
+      (by-good f law at p)
 
   ended : (b c : Bool) (p : Profile) → Q (pick b (record { number = 0; place = 0; profile = p }) (refused (only (pick c 1 2))))
   ended true c p = done p
@@ -272,7 +303,7 @@ module _ (Q : Reading → Type 0) (done : (p : Profile) → Q (record { number =
       (or-refused (not (eqb (row s 0) (f .tag))) 2 _ q₂
       (or-refused (not (eqb (row s 1 * 256 + row s 2) (f .due p))) 3 _ q₃
       (or-refused (ltb (length s) (3 + f .due p)) 1 _ q₁
-      (or-named f (l .named) at q _
+      (or-named f l at q _
       (table-answer fs (at + 3 + f .due p) q (drop (3 + f .due p) s) L))))))
 
 -- how many bytes are due
@@ -329,14 +360,15 @@ table-refused (f ∷ fs) at p s O t =
     let room : 3 + d ≤ length s = leb→le (3 + d) (length s) t₁ in
     let due : f .due P ≡ d = kept-spelt (f .due) fs q (drop (3 + d) s) (O .0 .1) ∙ O .0 .0 p (take d (drop 3 s)) in
     let tested : f .tested P ≡ f .tested q = kept-spelt (f .tested) fs q (drop (3 + d) s) (O .1) in
+    let also : f .also P ≡ f .also q = kept-spelt (f .also) fs q (drop (3 + d) s) (O .2) in
     skip _ (refused (only 5)) (ne-eqb (length s) 0 (omega arith))
     (skip _ (refused (only 1)) (le-ltb (length s) 3 (omega arith))
     (skip _ (refused (only 2)) (ap not (is-true tag (and-l tag (long && rest) t₂)))
     (skip _ (refused (only 3)) (ap not (is-true long (and-l long rest t₃)))
     (skip _ (refused (only 1)) (le-ltb (length s) (3 + d) room)
-    (ap (unless (faultOf f at q)) (table-refused fs (at + 3 + d) q (drop (3 + d) s) (O .3) (and-r long rest t₃))
+    (ap (unless (faultOf f at q)) (table-refused fs (at + 3 + d) q (drop (3 + d) s) (O .4) (and-r long rest t₃))
     ∙ unless-or (faultOf f at q) (faultFrom fs (at + 3 + d) P) (record { number = 0; place = 0; profile = P })
-    ∙ rw (due, tested))))))
+    ∙ rw (due, tested, also))))))
 
 -- ---- what is written of any value has right headers, and spells the value
 
@@ -354,7 +386,7 @@ table-spelt (f ∷ fs) p P (more law L) O S e =
     let m : length v ≡ f .due p = law .measured P S ∙ d in
     let long = length-append v rest in
     let room : suc (suc (suc (f .due p))) ≤ suc (suc (suc (length (v ++ rest)))) = omega arith in
-    let w = table-spelt fs (f .with p v) P L (O .3) S e in
+    let w = table-spelt fs (f .with p v) P L (O .4) S e in
     rw (three (f .due p), take-at v rest (f .due p) m, drop-at v rest (f .due p) m) (
       and-i (leb (suc (suc (suc (f .due p)))) (suc (suc (suc (length (v ++ rest)))))) _ (le→leb _ _ room)
           (and-i (eqb (f .tag) (f .tag)) _ (eq→eqb {a = f .tag} refl)

@@ -15,7 +15,7 @@ use lib.ListN.{length, getD, take, drop, length-drop, drop-of-length-le}
 use lib.Seq.{drop-cons, length-take-le, take-all}
 use Rattle.rules.specs.Bits.{pick}
 use Rattle.rules.specs.Profile.{Tested, each, faulty, in20, only}
-use Rattle.rules.specs.Slots.{slots}
+use Rattle.rules.specs.Modes.{slots}
 use Rattle.rules.specs.declared.Answer.{Answer}
 use Rattle.profile.specs.Fields.{between, passing}
 

@@ -7,7 +7,7 @@ use lib.ListN.{length, take, drop, replicate, length-append, drop-of-length-le}
 use lib.Seq.{length-take-le, sets}
 use Rattle.rules.specs.Profile.{Field, fault, fields, fieldBytes, inRange, largest, written, writing}
 use borrow.Author.Tests.{eq-eqb, ne-eqb}
-use Rattle.rules.specs.Slots.{slots}
+use Rattle.rules.specs.Modes.{slots}
 use Rattle.rules.specs.declared.Profile.{Profile}
 use Rattle.profile.specs.Fields.{field, many}
 use Rattle.rules.specs.Profile.{Shape}

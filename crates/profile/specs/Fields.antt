@@ -5,7 +5,7 @@ use Prim.Native.Nat.{ℕ, suc, _+_, _*_}
 use lib.Dec.{eqb, leb, ltb}
 use lib.ListN.{length, getD}
 use Rattle.rules.specs.Bits.{pick, row}
-use Rattle.rules.specs.Profile.{Field, fields}
+use Rattle.rules.specs.Profile.{Field, fields, noMore}
 
 -- from low to high - 1
 abbrev pub between : ℕ → ℕ → ℕ → Bool
@@ -22,7 +22,7 @@ many = length fields
 
 -- field i of the table, from 0; after the last one a field of which nothing is asked
 abbrev pub none : Field
-none = record { tag = 0; refusal = 0; due = λ p. 0; with = λ p s. p; tested = λ p. []; bytes = λ p. [] }
+none = record { tag = 0; refusal = 0; due = λ p. 0; with = λ p s. p; tested = λ p. []; also = noMore; bytes = λ p. [] }
 
 unfoldable pub field : ℕ → Field
 field i = getD fields i none

@@ -22,11 +22,11 @@ pub(crate) fn due(i: usize, p: Profile) -> usize
         1 => 4,
         2 => 1,
         3 => 1,
-        _ => 4 * ranges::slots(p.mode),
+        _ => 4 * modes::slot_count(p.mode),
     }
 }
 
-// What is at fault in the field's value, where its header begins at a byte.
+// What a field finds at fault, where its header begins at a byte.
 pub(crate) fn fault(i: usize, at: usize, p: Profile) -> Answer
     requires { ⌜ (i < many) × (at < 2 ^ 63) ⌝ }
     ensures { λ r. ⌜ r ≡ faultOf (field i) at p ⌝ }
@@ -37,7 +37,7 @@ pub(crate) fn fault(i: usize, at: usize, p: Profile) -> Answer
             ranges::masks_fault(40, at + 3, masks)
         }
         1 => ranges::single(ranges::level_good(p.level), 41, at + 3),
-        2 => ranges::single(ranges::mode_good(p.mode), 42, at + 3),
+        2 => ranges::mode_fault(at + 3, p.mode, p.level),
         3 => ranges::single(ranges::k_good(p.k), 43, at + 3),
         _ => {
             let seeds = p.seeds;
@@ -92,7 +92,7 @@ pub(crate) fn put_value(i: usize, p: Profile, s: &mut [u8], at: usize)
         2 => s[at] = p.mode,
         3 => s[at] = p.k,
         _ => {
-            let n = ranges::slots(p.mode);
+            let n = modes::slot_count(p.mode);
             let seeds = p.seeds;
             numbers::put_words(s, at, &seeds[..n]);
         }

@@ -7,7 +7,7 @@ ghost use lib.Ieee.{binary32};
 ghost use lib.ListN.{length, replicate};
 ghost use lib.Seq.{sets};
 ghost use Rattle.rules.specs.Profile.{allBytes, number, wordBytes, words};
-ghost use Rattle.rules.specs.Slots.{slots as slotsOf};
+ghost use Rattle.rules.specs.Modes.{slots as slotsOf};
 
 // A number of four bytes.
 fn word(b0: u8, b1: u8, b2: u8, b3: u8) -> u32
@@ -45,7 +45,7 @@ pub(crate) fn seeds_of(mode: u8, s: &[u8]) -> [u32; 48]
     ensures { λ r. ⌜ r ≡ words (slotsOf mode) (now (s .entry)) ++ replicate (48 - slotsOf mode) 0 ⌝ }
 {
     let mut seeds = [0u32; 48];
-    let n = super::ranges::slots(mode);
+    let n = modes::slot_count(mode);
     fill(&mut seeds[..n], s);
     seeds
 }

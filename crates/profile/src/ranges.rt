@@ -6,8 +6,8 @@ ghost use lib.Dec.{eqb};
 ghost use lib.ListN.{length, take, drop};
 ghost use Rattle.rules.specs.Outer.{isK};
 ghost use Rattle.rules.specs.Bits.{pick};
-ghost use Rattle.rules.specs.Profile.{each, faulty, in20, isLevel, only};
-ghost use Rattle.rules.specs.Slots.{isMode, slots as slotsOf};
+ghost use Rattle.rules.specs.Profile.{_or_, each, faulty, in20, isLevel, only, sends as sendsOf};
+ghost use Rattle.rules.specs.Modes.{isMode, slots as slotsOf};
 ghost use Rattle.profile.specs.Fields.{between, passing as passingOf};
 use rules::Answer;
 
@@ -18,13 +18,6 @@ const MOST: f32 = 3.40282347e38;
 
 // Masks and seeds stay below this.
 const LIMIT: u32 = 1_048_576;
-
-// How many slots a mode has.
-pub(crate) fn slots(mode: u8) -> usize
-    ensures { λ r. ⌜ (r ≡ slotsOf mode) × (r ≤ 48) ⌝ }
-{
-    if mode == 0 { 48 } else { 32 }
-}
 
 // Whether a number is from low to high - 1.
 fn is_between(x: u32, low: u32, high: u32) -> bool
@@ -81,11 +74,25 @@ pub(crate) fn level_good(level: f32) -> bool
     LEAST <= level && level <= MOST
 }
 
-// Field 3.
-pub(crate) fn mode_good(mode: u8) -> bool
-    ensures { λ r. ⌜ r ≡ isMode mode ⌝ }
+// Whether a mode can send D: QPSK any, 16QAM one whose triple, a single rounded multiplication, is finite.
+fn sends(mode: u8, level: f32) -> bool
+    ensures { λ r. ⌜ r ≡ sendsOf mode level ⌝ }
 {
-    mode < 2
+    modes::part_bits(mode) == 1 || 3.0 * level <= MOST
+}
+
+// Field 3: a mode; and where it can't send D that is refused as field 2's value is, with the byte where it begins.
+pub(crate) fn mode_fault(at: usize, mode: u8, level: f32) -> Answer
+    ensures { λ r. ⌜ r ≡ pick (isMode mode) (only 0) (record { number = 42; place = at })
+        or pick (sendsOf mode level) (only 0) (record { number = 41; place = 38 }) ⌝ }
+{
+    if !modes::is_mode(mode) {
+        return Answer {
+            number: 42,
+            place: at,
+        };
+    }
+    single(sends(mode, level), 41, 38)
 }
 
 // Field 4.
@@ -100,7 +107,7 @@ pub(crate) fn seeds_fault(number: u32, at: usize, mode: u8, seeds: [u32; 48]) ->
     requires { ⌜ at ≤ 2 ^ 63 + 3 ⌝ }
     ensures { λ r. ⌜ r ≡ faulty number at (each 4 in20 (take (slotsOf mode) seeds) ++ each 4 (eqb 0) (drop (slotsOf mode) seeds)) ⌝ }
 {
-    let n = slots(mode);
+    let n = modes::slot_count(mode);
     let used = passing(&seeds[..n], 1, LIMIT);
     if used < n {
         return Answer {

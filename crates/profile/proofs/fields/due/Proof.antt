@@ -7,8 +7,8 @@ use borrow.Author.Needs.{needs}
 use Rattle.profile.proofs.fields.due.Statement.{statement}
 use Rattle.profile.proofs.fields.due.Tie as tie
 
-slots-requires : tie.Need-slots-requires
-slots-requires c κs = search needs
+slot-count-requires : tie.Need-slot-count-requires
+slot-count-requires c κs = search needs
 
 mul-result : tie.Need-mul-result
 mul-result c = search needs
@@ -33,8 +33,8 @@ returns-5 : tie.Need-returns-5
 unfolding field
 returns-5 c =
     let last : c .before .before .args .i ≡ 4 = omega arith in
-    (rw last (ap (λ n. 4 * n) (c .slots .ensures .0)), omega arith)
+    (rw last (ap (λ n. 4 * n) (c .slot-count .ensures .0)), omega arith)
 
 pub due-spec : {M : Type 1} → statement M
 due-spec =
-    tie.close (tie.spec slots-requires mul-result returns returns-2 returns-3 returns-4 returns-5)
+    tie.close (tie.spec slot-count-requires mul-result returns returns-2 returns-3 returns-4 returns-5)

@@ -4,7 +4,7 @@ use Prim.Native.Nat.{_+_, _*_, _≤_}
 use native.Mathlib.Omega.{arith}
 use lib.ListN.{length}
 use lib.Seq.{length-take-le}
-use Rattle.rules.specs.Slots.{slots}
+use Rattle.rules.specs.Modes.{slots}
 use Rattle.profile.specs.Fields.{field}
 use borrow.Author.Needs.{needs}
 use Rattle.profile.proofs.fields.put_value.Statement.{statement}
@@ -42,8 +42,8 @@ slice-write-s-2 c =
     let fit : b .args .at + 1 ≤ length (b .args .s .now) = rw (c .match .keys4) at (b .pre .1) in
     omega arith
 
-slots-requires : tie.Need-slots-requires
-slots-requires c κs = search needs
+slot-count-requires : tie.Need-slot-count-requires
+slot-count-requires c κs = search needs
 
 array-share-prefix-seeds : tie.Need-array-share-prefix-seeds
 array-share-prefix-seeds c =
@@ -53,12 +53,12 @@ array-share-prefix-seeds c =
 slice-aggregate-put-words-2 : tie.Need-slice-aggregate-put-words-2
 slice-aggregate-put-words-2 c =
     let long : length (c .before .before .before .before .before .before .args .p .seeds) ≡ 48 = search needs in
-    sym (length-take-le (c .before .before .before .slots .result) (c .before .before .before .before .before .before .args .p .seeds) (omega arith))
+    sym (length-take-le (c .before .before .before .slot-count .result) (c .before .before .before .before .before .before .args .p .seeds) (omega arith))
 
 put-words-requires-2 : tie.Need-put-words-requires-2
 unfolding field
 put-words-requires-2 c κs =
-    let n = c .before .before .before .slots in
+    let n = c .before .before .before .slot-count in
     let b = c .before .before .before .before .before .before in
     let last : b .args .i ≡ 4 = omega arith in
     let fit : b .args .at + 4 * slots (b .args .p .mode) ≤ length (b .args .s .now) = rw last at (b .pre .1) in
@@ -102,7 +102,7 @@ returns-5 : tie.Need-returns-5
 unfolding field
 returns-5 c =
     let last : c .before .before .before .before .before .before .before .before .before .args .i ≡ 4 = omega arith in
-    c .before .before .put-words2 .ensures ∙ rw (last, c .before .before .before .before .before .before .slots .ensures .0) refl
+    c .before .before .put-words2 .ensures ∙ rw (last, c .before .before .before .before .before .before .slot-count .ensures .0) refl
 
 pub put-value-spec : {M : Type 1} → statement M
 put-value-spec =
@@ -114,7 +114,7 @@ put-value-spec =
     put-word-requires
     slice-write-s
     slice-write-s-2
-    slots-requires
+    slot-count-requires
     array-share-prefix-seeds
     slice-aggregate-put-words-2
     put-words-requires-2

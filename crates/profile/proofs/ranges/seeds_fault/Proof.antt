@@ -11,8 +11,8 @@ use Rattle.profile.proofs.ranges.seeds_fault.Tie as tie
 whole : (c : tie.Start) → length (c .args .t4) ≡ 48
 whole c = search needs
 
-slots-requires : tie.Need-slots-requires
-slots-requires c κs = search needs
+slot-count-requires : tie.Need-slot-count-requires
+slot-count-requires c κs = search needs
 
 array-share-prefix-seeds : tie.Need-array-share-prefix-seeds
 array-share-prefix-seeds c = search needs
@@ -36,7 +36,7 @@ returns c =
     let a = s .before .args in
     let long = whole (s .before) in
     rw (p .passing .ensures .0)
-    (used-fault (a .number) (a .at) (a .mode) (s .slots .result) (a .t4) (s .slots .ensures .0) long (omega arith) (rw (p .passing .ensures .0) at (c .if1 .taken)))
+    (used-fault (a .number) (a .at) (a .mode) (s .slot-count .result) (a .t4) (s .slot-count .ensures .0) long (omega arith) (rw (p .passing .ensures .0) at (c .if1 .taken)))
 
 mul-passing : tie.Need-mul-passing
 mul-passing c = search needs
@@ -67,17 +67,17 @@ returns-2 c =
     let s = p .before .before in
     let a = s .before .args in
     let long = whole (s .before) in
-    let first : length (take (s .slots .result) (a .t4)) ≡ s .slots .result = length-take-le (s .slots .result) (a .t4) (omega arith) in
-    let all : p .passing .result ≡ s .slots .result = omega (arith, p .passing .ensures .1) in
+    let first : length (take (s .slot-count .result) (a .t4)) ≡ s .slot-count .result = length-take-le (s .slot-count .result) (a .t4) (omega arith) in
+    let all : p .passing .result ≡ s .slot-count .result = omega (arith, p .passing .ensures .1) in
     c .several .ensures
     ∙ rw (v .passing2 .ensures .0)
-    (unused-fault (a .number) (a .at) (a .mode) (s .slots .result) (a .t4) (s .slots .ensures .0) long (omega arith) (sym (p .passing .ensures .0) ∙ all))
+    (unused-fault (a .number) (a .at) (a .mode) (s .slot-count .result) (a .t4) (s .slot-count .ensures .0) long (omega arith) (sym (p .passing .ensures .0) ∙ all))
 
 pub seeds-fault-spec : {M : Type 1} → statement M
 seeds-fault-spec =
     tie.close
     (tie.spec
-    slots-requires
+    slot-count-requires
     array-share-prefix-seeds
     slice-aggregate-passing
     passing-requires
