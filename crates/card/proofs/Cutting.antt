@@ -6,7 +6,7 @@ use native.Mathlib.Omega.{arith}
 use lib.Ieee.{Float}
 use lib.ListN.{length}
 use borrow.Author.Tests.{eq-eqb, le-ltb}
-use Rattle.rules.specs.Slots.{symbols}
+use Rattle.rules.specs.Modes.{symbols}
 use Rattle.rules.specs.Block.{early, silence, ReceiveRule}
 use Rattle.rules.specs.Pieces.{seen, cellIn, asking, FeedRule, Fed, AskRule}
 use Rattle.rules.specs.declared.Answer.{Answer}
@@ -38,7 +38,7 @@ any-cutting P marks f s state before after a h all r =
     same : asking P state (length before) ≡ early P (length before) (length f) (length s) cells
     same =
         rw (
-          sym (passes cells state (is-state cells state .0 (left-state P w))),
+          sym (passes (P .mode) state (is-state (P .mode) state .0 (left-state P w))),
           eq-eqb (length f) cells all,
           eq-eqb (length s) cells (w .seconds ∙ all),
           le-ltb (seen state) cells (omega (arith, w .firsts)),

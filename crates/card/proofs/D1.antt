@@ -8,7 +8,8 @@ use lib.Dec.{T, eqb, ltb}
 use lib.ListN.{length, replicate, getD-replicate}
 use Rattle.rules.specs.Bits.{pick, row, everyBelow}
 use Rattle.rules.specs.Outer.{marked}
-use Rattle.rules.specs.Slots.{packetBits, symbols, coded}
+use Rattle.rules.specs.Modes.{packetBits, symbols}
+use Rattle.rules.specs.Slots.{coded}
 use Rattle.rules.specs.Points.{doubtful}
 use Rattle.rules.specs.Answers.{isNumber, isAnswer, isReason}
 use Rattle.rules.specs.Block.{early, Answered, Delivered, reason, judged, packetPart}

@@ -11,7 +11,7 @@ use lib.Ieee.{Float}
 use lib.ListN.{length, getD}
 use Rattle.rules.specs.Bits.{pick}
 use Rattle.rules.specs.Outer.{marked}
-use Rattle.rules.specs.Slots.{symbols}
+use Rattle.rules.specs.Modes.{symbols}
 use Rattle.rules.specs.Points.{zeroPart, firstPart, secondPart}
 use Rattle.rules.specs.Profile.{only, _or_, inRange}
 use Rattle.rules.specs.Answers.{hasRead, namesField}

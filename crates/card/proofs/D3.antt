@@ -13,7 +13,8 @@ use lib.Seq.{ext-getD}
 use Rattle.rules.specs.Bits.{row, differ}
 use Rattle.rules.specs.Packet.{packetBit}
 use Rattle.rules.specs.Outer.{isK, marked, Codeword, Agree}
-use Rattle.rules.specs.Slots.{packetBits, symbols, coded}
+use Rattle.rules.specs.Modes.{packetBits, symbols}
+use Rattle.rules.specs.Slots.{coded}
 use Rattle.rules.specs.Profile.{inRange}
 use Rattle.rules.specs.Block.{packet, decidedData, byteOf, verdict, Delivered, Judged, ReceiveRule, decided, lostMask}
 use Rattle.rules.specs.Demands.{D3, heardInPlace, sentInPlace, Wrong, Lost, Members, Fair, BringsBack}
@@ -27,7 +28,7 @@ use Rattle.card.proofs.Grid.{grid-heard}
 use Rattle.card.proofs.Cutting.{any-cutting}
 use Rattle.card.proofs.Few.{few-same}
 use Rattle.laws.specs.Mask.{mask-lt}
-use Rattle.block.proofs.Ranges.{ranges}
+use Rattle.profile.proofs.InRange.{ranges}
 use Rattle.card.proofs.Mask.{mask-kept}
 use Rattle.card.proofs.Differ.{find}
 use Rattle.card.proofs.Members.{members-one, members-ones}

@@ -2,17 +2,18 @@
 -- parity, and one more. A demand with a narrower bound would not give these.
 use mathlib.Core.Path.{_≡_, refl, sym, ap, ap₂, _∙_, subst}
 use mathlib.Core.Bool.{true}
-use mathlib.Core.List.{List}
+use mathlib.Core.List.{List, [], _∷_}
 use mathlib.Core.Logic.{_⊎_, _↔_}
 use Prim.Native.Nat.{ℕ, suc, _+_, _-_, _*_, _/_, _%_, _<_, _≤_}
+use native.Mathlib.Decide.{decLt}
 use native.Mathlib.Omega.{arith}
-use lib.Dec.{T, lit<}
+use lib.Dec.{T, eqb, eqb→eq, lit<}
 use lib.Ieee.{Float}
 use lib.ListN.{length, getD, List·getD-eq-default}
 use borrow.Author.Tests.{lt-ltb, eq-eqb, ne-eqb}
 use Rattle.rules.specs.Bits.{row, differ}
 use Rattle.rules.specs.Outer.{marked}
-use Rattle.rules.specs.Slots.{packetBits, slots, symbols}
+use Rattle.rules.specs.Modes.{mode, slotBits, packetBits, slots, symbols}
 use Rattle.rules.specs.Points.{zeroPart, firstPart, secondPart}
 use Rattle.rules.specs.Profile.{only, inRange, Shape, reading, readAs, written}
 use Rattle.rules.specs.Answers.{isReason}
@@ -22,6 +23,7 @@ use Rattle.rules.specs.Demands.{bitInPlace, heardInPlace, sentInPlace, Doubtful
 use Rattle.rules.specs.declared.Answer.{Answer}
 use Rattle.rules.specs.declared.Profile.{Profile}
 use Rattle.rules.specs.declared.Receipt.{Receipt}
+use Rattle.laws.specs.Every.{every-at}
 use Rattle.profile.proofs.AtFault.{or-fine}
 use Rattle.receiving.proofs.States.{is-state, passes}
 use Rattle.receiving.proofs.Fed.{Left, fed-left, left-state}
@@ -45,7 +47,7 @@ module _ (P : Profile) (f s : List Float) (state : List ℕ) (t : T (inRange P))
   left : Left P f s state
   left = fed-left P h
 
-  good : isState (4096 * symbols (P .mode)) state ≡ true
+  good : isState (P .mode) state ≡ true
   good = sym (passes _ state (is-state _ state .0 (left-state P left)))
 
   module _ (f' s' : List Float) (after : List ℕ) (a : Answer) (r : FeedRule P f' s' state after a) where
@@ -149,28 +151,24 @@ module _ (P : Profile) (d : List ℕ) (marks : ℕ) (f s : List Float) (before a
   pub one-too-many : Members (Lost P marks d f s) 16 (suc (16 - P .k)) → (a .number ≡ 9) × (after ≡ before)
   one-too-many m = all .2 (suc (16 - P .k)) m (omega arith)
 
--- a value whose masks and seeds have all 32 bits, each mode with the seeds that it uses: its bytes are read as the value is refused
-pub all-bits-0 : (P : Profile) → Shape P → P .mode ≡ 0
-    → ((i : ℕ) → row (P .masks) i ≤ 0xFFFF_FFFF)
-    → ((i : ℕ) → row (P .seeds) i ≤ 0xFFFF_FFFF)
-    → reading (written P) ≡ readAs P
-all-bits-0 P S e a b =
-    d2 .written-out P S
-    (record {
-      masks = λ i. omega (arith, a i);
-      seeds = λ i. omega (arith, b i);
-      unused = λ i h. List·getD-eq-default (P .seeds) 0 {n = i} (omega (arith, S .seeds, subst (λ (m : ℕ). slots m ≤ i) e h));
-    })
+-- the seeds that each mode uses
+abbrev used : ℕ → ℕ
+used = row (48 ∷ 32 ∷ 24 ∷ 16 ∷ 12 ∷ [])
 
-pub all-bits-1 : (P : Profile) → Shape P → P .mode ≡ 1
+slots-used : (m : ℕ) → m ≤ 4 → slots m ≡ used m
+unfolding mode slotBits packetBits slots
+slots-used m l = eqb→eq _ _ (every-at 5 (λ k. eqb (slots k) (used k)) tt m (omega arith))
+
+-- a value whose masks and seeds have all 32 bits, each mode with the seeds that it uses: its bytes are read as the value is refused
+pub all-bits : (P : Profile) → Shape P → P .mode ≤ 4
     → ((i : ℕ) → row (P .masks) i ≤ 0xFFFF_FFFF)
     → ((i : ℕ) → row (P .seeds) i ≤ 0xFFFF_FFFF)
-    → ((i : ℕ) → 32 ≤ i → row (P .seeds) i ≡ 0)
+    → ((i : ℕ) → used (P .mode) ≤ i → i < 48 → row (P .seeds) i ≡ 0)
     → reading (written P) ≡ readAs P
-all-bits-1 P S e a b rest =
+all-bits P S few a b rest =
     d2 .written-out P S
-    (record {
-      masks = λ i. omega (arith, a i);
-      seeds = λ i. omega (arith, b i);
-      unused = λ i h. rest i (subst (λ (m : ℕ). slots m ≤ i) e h);
-    })
+    (record { masks = λ i. omega (arith, a i); seeds = λ i. omega (arith, b i); unused = λ i h. go i h (decLt i 48) })
+  where
+    go : (i : ℕ) → slots (P .mode) ≤ i → Dec (i < 48) → row (P .seeds) i ≡ 0
+    go i h (yes l) = rest i (omega (arith, h, slots-used (P .mode) few)) l
+    go i h (no l) = List·getD-eq-default (P .seeds) 0 {n = i} (omega (arith, S .seeds))

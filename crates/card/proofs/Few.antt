@@ -10,7 +10,8 @@ use Rattle.rules.specs.Bits.{bitOf, byteBit, differ}
 use Rattle.rules.specs.Packet.{packetBit, checkWord}
 use Rattle.rules.specs.Interleaver.{bitDeinterleaved}
 use Rattle.rules.specs.Turbo.{dataPlace}
-use Rattle.rules.specs.Slots.{rate, packetBits, coded}
+use Rattle.rules.specs.Modes.{rate, packetBits}
+use Rattle.rules.specs.Slots.{coded}
 use Rattle.rules.specs.Block.{checkRight}
 use Rattle.laws.specs.Every.{every-of}
 use Rattle.packet.proofs.Bits.{word-same, data-bit, check-bit, zero-bit, packet-bit-lt}

@@ -1,13 +1,12 @@
 -- A grid that was sent, with nothing changed, is heard as it was sent.
 use mathlib.Core.Path.{_≡_, ap, ap₂, _∙_}
-use mathlib.Core.Bool.{Bool, true, false}
 use mathlib.Core.List.{List}
 use Prim.Native.Nat.{ℕ, _+_, _*_, _/_, _%_, _<_}
 use native.Mathlib.Omega.{arith}
-use lib.Dec.{T, eqb}
+use lib.Dec.{T}
 use lib.Ieee.{Float}
-use Rattle.rules.specs.Bits.{pick}
-use Rattle.rules.specs.Slots.{packetBits, slots, symbols, symbolOf}
+use Rattle.rules.specs.Modes.{slotBits, packetBits, slots, symbols}
+use Rattle.rules.specs.Slots.{symbolOf}
 use Rattle.rules.specs.Points.{firstPart, secondPart}
 use Rattle.rules.specs.Cells.{pointCell, gridCell}
 use Rattle.rules.specs.Profile.{inRange}
@@ -16,16 +15,12 @@ use Rattle.rules.specs.Demands.{heardInPlace, sentInPlace}
 use Rattle.rules.specs.declared.Profile.{Profile}
 use Rattle.cells.proofs.Inverse.{point-cell-lt}
 use Rattle.cells.proofs.Deciding.{heard-sent}
-use Rattle.block.proofs.Ranges.{ranges}
+use Rattle.modes.proofs.Figures.{in-block, in-slot}
+use Rattle.profile.proofs.InRange.{good-level}
 
 bit-lt : (P : Profile) (d : List ℕ) (t i : ℕ) → sentBit P d t i < 2
 unfolding sentBit
 bit-lt P d t i = omega arith
-
--- packet p's slots are the block's
-slot-lt : (b : Bool) (p i : ℕ) → p < 16 → i < pick b 3000 2000 → (pick b 3000 2000 * p + i) / 1000 < 16 * pick b 3000 2000 / 1000
-slot-lt true p i h l = omega arith
-slot-lt false p i h l = omega arith
 
 module _ (P : Profile) (d : List ℕ) (f s : List Float) (t : T (inRange P)) (c : Cells P d 0 (symbols (P .mode)) f s) where
   at : (t i : ℕ) → t < slots (P .mode) → i < 500
@@ -37,11 +32,11 @@ module _ (P : Profile) (d : List ℕ) (f s : List Float) (t : T (inRange P)) (c 
       let x : gridCell t i % 4096 ≡ pointCell t i = omega arith in
       (omega arith, ap₂ (sentCell P d) y x)
 
-  slot-heard : (t i : ℕ) → t < slots (P .mode) → i < 1000 → heard f s t i ≡ sentBit P d t i
+  slot-heard : (t i : ℕ) → t < slots (P .mode) → i < slotBits (P .mode) → heard P f s t i ≡ sentBit P d t i
   slot-heard =
-      heard-sent (P .mode) (P .level) (sentBit P d) f s (ranges P t .level) (bit-lt P d)
+      heard-sent P (sentBit P d) f s (good-level P t) (bit-lt P d)
       (λ t i h l. c .firsts-are (gridCell t i) (at t i h l .0) ∙ ap firstPart (at t i h l .1))
       (λ t i h l. c .seconds-are (gridCell t i) (at t i h l .0) ∙ ap secondPart (at t i h l .1))
 
   pub grid-heard : (p i : ℕ) → p < 16 → i < packetBits (P .mode) → heardInPlace P f s p i ≡ sentInPlace P d p i
-  grid-heard p i h l = slot-heard _ _ (slot-lt (eqb (P .mode) 0) p i h l) (omega arith)
+  grid-heard p i h l = let w = in-slot (P .mode) _ (in-block (P .mode) p i h l) in slot-heard _ _ (w .0) (w .1)

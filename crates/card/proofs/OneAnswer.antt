@@ -10,7 +10,7 @@ use lib.ListN.{length}
 use lib.Seq.{ext-getD}
 use Rattle.rules.specs.Bits.{row}
 use Rattle.rules.specs.Outer.{isK}
-use Rattle.rules.specs.Slots.{symbols}
+use Rattle.rules.specs.Modes.{symbols}
 use Rattle.rules.specs.Profile.{inRange}
 use Rattle.rules.specs.Block.{early, decided, packetPart, decidedData, byteOf, lostMask, Delivered, Judged, Answered, ReceiveRule}
 use Rattle.rules.specs.Pieces.{asking, AskRule}
@@ -19,7 +19,7 @@ use Rattle.rules.specs.declared.Profile.{Profile}
 use Rattle.rules.specs.declared.Receipt.{Receipt}
 use Rattle.outer.proofs.Roots.{k-range, rate as outer-rate}
 use Rattle.outer.proofs.Solve.{unique}
-use Rattle.block.proofs.Ranges.{ranges}
+use Rattle.profile.proofs.InRange.{ranges}
 use Rattle.block.proofs.Passed.{right}
 use Rattle.receiving.proofs.States.{asking-0}
 use Rattle.laws.specs.Mask.{mask-lt}

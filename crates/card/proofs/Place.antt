@@ -14,7 +14,8 @@ use borrow.Author.Tests.{eq-eqb, ne-eqb}
 use Rattle.rules.specs.Bits.{pick}
 use Rattle.rules.specs.Packet.{packetBit}
 use Rattle.rules.specs.Outer.{marked}
-use Rattle.rules.specs.Slots.{slotBits, packetBits, coded, symbols}
+use Rattle.rules.specs.Modes.{slotBits, packetBits, symbols}
+use Rattle.rules.specs.Slots.{coded}
 use Rattle.rules.specs.Profile.{inRange}
 use Rattle.rules.specs.Block.{packet, scrambler, sentBit, heard, unscrambled, decided, packetPart, verdict, reason, ReceiveRule, Judged}
 use Rattle.rules.specs.Demands.{bitInPlace, heardInPlace, sentInPlace, SomePacket}
@@ -24,7 +25,7 @@ use Rattle.packet.proofs.Bits.{packet-bit-lt}
 use Rattle.turbo.proofs.Modes.{coded-bit}
 use Rattle.turbo.proofs.Accepted.{accepted-coded, coded-accepted}
 use Rattle.slots.proofs.Twice.{scrambling-lt, unscrambled-bit, unscrambled-twice}
-use Rattle.cells.proofs.Deciding.{decide-lt}
+use Rattle.cells.proofs.Deciding.{heard-lt}
 use Rattle.block.proofs.Passed.{early-right}
 
 -- with a profile in its range, and rooms of the right lengths, receiving judges
@@ -39,10 +40,6 @@ judges {P} f s {before = before} r t b x y =
     r .judged (early-right P (length before) (length f) (length s) (4096 * symbols (P .mode)) .1 (t, b, x, y))
 
 -- ---- scrambled and back
-
-heard-lt : (f s : List Float) (t i : ℕ) → heard f s t i < 3
-unfolding heard
-heard-lt f s t i = decide-lt _
 
 turned : (h s b : ℕ) → h < 3 → s < 2 → b < 2 → unscrambled h s ≡ b → h ≡ (b + s) % 2
 turned h s b hh hs hb e = go (ℕ-discrete h 2)
@@ -77,7 +74,7 @@ module _ (P : Profile) (f s : List Float) (p : ℕ) where
       let t : ℕ = (packetBits (P .mode) * p + i) / slotBits (P .mode) in
       let g : ℕ = (packetBits (P .mode) * p + i) % slotBits (P .mode) in
       let bit : coded (P .mode) (packetBit e) i < 2 = coded-bit (P .mode) (packetBit e) (λ k h. packet-bit-lt e k) i l in (
-        turned (heard f s t g) (scrambler P t g) (coded (P .mode) (packetBit e) i) (heard-lt f s t g) (scrambling-lt _ _ g) bit,
+        turned (heard P f s t g) (scrambler P t g) (coded (P .mode) (packetBit e) i) (heard-lt P f s t g) (scrambling-lt _ _ g) bit,
         λ h. ap (λ (x : ℕ). unscrambled x (scrambler P t g)) h ∙ unscrambled-twice (coded (P .mode) (packetBit e) i) (scrambler P t g) bit,
       )
 

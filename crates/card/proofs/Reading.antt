@@ -3,17 +3,17 @@ use mathlib.Core.Path.{_≡_, refl, sym, ap, ap₂, _∙_}
 use mathlib.Core.List.{List}
 use mathlib.Core.Logic.{_↔_}
 use Prim.Native.Nat.{ℕ, _*_, _/_, _%_, _<_}
-use native.Mathlib.Omega.{arith}
 use lib.Dec.{T}
 use lib.Ieee.{Float}
 use lib.ListN.{length, replicate}
-use Rattle.rules.specs.Slots.{slotBits, slots, symbols}
+use Rattle.rules.specs.Modes.{slotBits, slots, symbols}
 use Rattle.rules.specs.Profile.{inRange}
 use Rattle.rules.specs.Answers.{hasRead}
 use Rattle.rules.specs.Block.{early, heard, decided, silence, Accepted, Answered, ReceiveRule}
 use Rattle.rules.specs.declared.Answer.{Answer}
 use Rattle.rules.specs.declared.Profile.{Profile}
 use Rattle.rules.specs.declared.Receipt.{Receipt}
+use Rattle.modes.proofs.Figures.{in-slot}
 use Rattle.profile.proofs.AtFault.{or-unread}
 use Rattle.block.proofs.Passed.{early-right}
 use Rattle.receiving.proofs.Judgement.{again, judged-same}
@@ -48,7 +48,7 @@ reads P marks f s before after a r =
     )
 
 module _ (P : Profile) (marks : ℕ) (f s f' s' : List Float) (before : List ℕ) (firsts : length f ≡ length f') (seconds : length s ≡ length s')
-    (alike : (t i : ℕ) → t < slots (P .mode) → i < slotBits (P .mode) → heard f s t i ≡ heard f' s' t i) where
+    (alike : (t i : ℕ) → t < slots (P .mode) → i < slotBits (P .mode) → heard P f s t i ≡ heard P f' s' t i) where
   -- what is answered to the one grid is an answer to the other
   received-as : (after : List ℕ) (a : Receipt) → ReceiveRule P marks f s before after a → ReceiveRule P marks f' s' before after a
   unfolding decided
@@ -66,7 +66,8 @@ module _ (P : Profile) (marks : ℕ) (f s f' s' : List Float) (before : List ℕ
 
       bit : (g : ℕ) → g < slotBits (P .mode) * slots (P .mode) → decided P f s g ≡ decided P f' s' g
       bit g lt =
-          again P g (alike (g / slotBits (P .mode)) (g % slotBits (P .mode)) (omega arith) (omega arith))
+          let w = in-slot (P .mode) g lt in
+          again P g (alike (g / slotBits (P .mode)) (g % slotBits (P .mode)) (w .0) (w .1))
 
   pub own-cells : (after after' : List ℕ) (a a' : Receipt)
       → ReceiveRule P marks f s before after a

@@ -10,7 +10,7 @@ use lib.Ieee.{Float}
 use lib.ListN.{length, take, replicate}
 use Rattle.rules.specs.Bits.{row}
 use Rattle.rules.specs.Outer.{marked}
-use Rattle.rules.specs.Slots.{symbols}
+use Rattle.rules.specs.Modes.{symbols}
 use Rattle.rules.specs.Profile.{Shape, fields, blank, only, reading, headed, spelt, largest}
 use Rattle.rules.specs.Answers.{isNumber, isAnswer, namesField, isReason, hasRead}
 use Rattle.rules.specs.Block.{Cells}

@@ -2,28 +2,31 @@
 use mathlib.Core.Path.{_≡_, refl, sym, _∙_, ap, ap₂, subst}
 use mathlib.Core.Bool.{Bool, _&&_}
 use mathlib.Core.List.{List, [], _∷_, _++_}
-use mathlib.Core.Logic.{_↔_, Iff·trans}
-use Prim.Native.Nat.{ℕ, zero, suc, _+_, _-_, _*_, _/_, _%_, _<_, _≤_}
+use mathlib.Core.Logic.{_↔_, Iff·trans, _⊎_, inl, inr}
+use Prim.Native.Nat.{ℕ, zero, suc, _+_, _-_, _*_, _/_, _%_, _^_, _<_, _≤_}
 use native.Mathlib.Decide.{ℕ-discrete, decLt}
-use native.Mathlib.Nat.{le-of-suc-le-suc}
+use native.Mathlib.Nat.{le-of-suc-le-suc, eq-zero-or-pos, mod-lt, div-lt-iff-lt-mul, div-add-mod}
 use native.Mathlib.Omega.{arith}
 use lib.Dec.{T, eqb, ltb}
-use lib.Ieee.{Float, binary32, ofBits, lt}
+use lib.Ieee.{Float}
 use lib.ListN.{length, getD, replicate, length-append, length-replicate, getD-replicate, List·getD-append, List·getD-eq-default}
 use lib.Seq.{getD-append-add, ext-getD}
-use borrow.Author.Tests.{lt-ltb, le-ltb, le-leb, lt-leb}
-use Rattle.rules.specs.Bits.{pick, row}
-use Rattle.rules.specs.Slots.{symbols}
-use Rattle.rules.specs.Points.{zeroPart, decide}
+use borrow.Author.Tests.{lt-ltb, le-ltb, le-leb, lt-leb, eq-eqb, ne-eqb}
+use Rattle.rules.specs.Bits.{pick, row, bitOf}
+use Rattle.rules.specs.Modes.{partBits, symbols}
+use Rattle.rules.specs.Points.{zeroPart, part, decide}
 use Rattle.rules.specs.Profile.{only, inRange}
 use Rattle.rules.specs.declared.Answer.{Answer}
 use Rattle.profile.proofs.AtFault.{or-zero}
 use Rattle.rules.specs.Answers.{hasRead}
 use Rattle.rules.specs.Block.{Answered, Delivered}
-use Rattle.rules.specs.Pieces.{newState, seen, cellIn, cellByte, isState, byteAt, fedCell, Put, FeedRule, Fed, LeftBy, asking, AskRule}
+use Rattle.rules.specs.Pieces.{newState, seen, cellIn, choices, cellByte, isState, byteAt, fedCell, Put, FeedRule, Fed, LeftBy, asking, AskRule}
 use Rattle.rules.specs.declared.Profile.{Profile}
 use Rattle.rules.specs.declared.Receipt.{Receipt}
-use Rattle.cells.proofs.Deciding.{decide-lt}
+use Rattle.laws.specs.Levels.{Good, decide-number, decide-zero}
+use Rattle.modes.proofs.Figures.{figures}
+use Rattle.cells.proofs.Reading.{byte-lt}
+use Rattle.profile.proofs.InRange.{good-level}
 use Rattle.receiving.proofs.States.{IsState, is-state, grid-fits, feeding-taken, feeding-22, asking-0, asking-22, asking-not-read}
 
 -- ---- what a new state and a fed cell are
@@ -48,30 +51,43 @@ new-seen : seen newState ≡ 0
 new-seen = omega (arith, new-row 0, new-row 1)
 
 -- the byte of a cell that had come before the piece, comes in it, or has not come yet
-module _ (n : ℕ) (f s : List Float) (before : ℕ → ℕ) (c : ℕ) where
+module _ (P : Profile) (n : ℕ) (f s : List Float) (before : ℕ → ℕ) (c : ℕ) where
   abbrev fedAs : Bool → ℕ
-  fedAs b = pick b (byteAt f s (c - n)) (before c)
+  fedAs b = pick b (byteAt P f s (c - n)) (before c)
 
-  pub fed-before : c < n → fedCell n f s before c ≡ before c
+  pub fed-before : c < n → fedCell P n f s before c ≡ before c
   fed-before h = ap (λ (b : Bool). fedAs (b && ltb c (n + length f))) (lt-leb n c h)
 
-  pub fed-in : n ≤ c → c < n + length f → fedCell n f s before c ≡ byteAt f s (c - n)
+  pub fed-in : n ≤ c → c < n + length f → fedCell P n f s before c ≡ byteAt P f s (c - n)
   fed-in h l = ap₂ (λ (a b : Bool). fedAs (a && b)) (le-leb n c h) (lt-ltb c (n + length f) l)
 
-  pub fed-after : n ≤ c → n + length f ≤ c → fedCell n f s before c ≡ before c
+  pub fed-after : n ≤ c → n + length f ≤ c → fedCell P n f s before c ≡ before c
   fed-after h l = ap₂ (λ (a b : Bool). fedAs (a && b)) (le-leb n c h) (le-ltb c (n + length f) l)
 
 -- ---- parts that decide to what is wanted
 
-partFor : ℕ → Float
-partFor d = pick (eqb d 0) (ofBits binary32 0x3F80_0000) (pick (eqb d 1) (ofBits binary32 0xBF80_0000) zeroPart)
+-- a byte that a cell can have has two decisions; n is how many a part has
+byte-of : (n b : ℕ) → b < n * n → (b % n < n) × (b / n < n) × (b % n + n * (b / n) ≡ b)
+byte-of n b h = (mod-lt b some, div-lt-iff-lt-mul {y = n} some .1 h, omega (arith, div-add-mod b n))
+  where
+    some : 0 < n
+    some = go (eq-zero-or-pos n)
+      where
+        go : (n ≡ 0) ⊎ (0 < n) → 0 < n
+        go (inl e) = absurd (omega (arith, subst (λ (k : ℕ). b < k * k) e h))
+        go (inr l) = l
 
-part-decides : (d : ℕ) → d < 3 → decide (partFor d) ≡ d
-unfolding partFor decide ofBits lt
-part-decides zero h = refl
-part-decides (suc zero) h = refl
-part-decides (suc (suc zero)) h = refl
-part-decides (suc (suc (suc d))) h = absurd (omega arith)
+module _ (w : ℕ) (level : Float) (two : (w ≡ 1) ⊎ (w ≡ 2)) (good : Good w level) where
+  partFor : ℕ → Float
+  partFor d = pick (eqb d (2 ^ w)) zeroPart (part w level (bitOf w d))
+
+  part-decides : (d : ℕ) → d < choices w → decide w level (partFor d) ≡ d
+  unfolding partFor
+  part-decides d h = go (ℕ-discrete d (2 ^ w))
+    where
+      go : Dec (d ≡ 2 ^ w) → decide w level (partFor d) ≡ d
+      go (yes e) = rw (eq-eqb d (2 ^ w) e) (decide-zero w level two good ∙ sym e)
+      go (no ne) = rw (ne-eqb d (2 ^ w) ne) (decide-number w level d two good (omega arith))
 
 -- the first n that a function says, as a list
 abbrev made : ℕ → (ℕ → Float) → List Float
@@ -109,6 +125,16 @@ module _ (P : Profile) where
   abbrev grid : ℕ
   grid = 4096 * symbols (P .mode)
 
+  abbrev w : ℕ
+  w = partBits (P .mode)
+
+  two : (w ≡ 1) ⊎ (w ≡ 2)
+  two = figures (P .mode) .part
+
+  -- the byte of two parts
+  abbrev byte : Float → Float → ℕ
+  byte = cellByte w (P .level)
+
   -- ---- what fed pieces leave
 
   -- the state counts the cells and keeps what each decides to
@@ -117,7 +143,7 @@ module _ (P : Profile) where
     pub firsts : seen state ≡ length f
     pub seconds : length s ≡ length f
     pub within : length f ≤ grid
-    pub come : (c : ℕ) → c < length f → cellIn state c ≡ byteAt f s c
+    pub come : (c : ℕ) → c < length f → cellIn state c ≡ byteAt P f s c
     pub rest : (c : ℕ) → length f ≤ c → 2 + c < 28674 → cellIn state c ≡ 0
 
   left-new : Left [] [] newState
@@ -141,14 +167,14 @@ module _ (P : Profile) where
         come = λ c h. go c (omega (arith, length-append f f')) (decLt c (length f));
         rest = λ c h l.
             put .cells c l
-            ∙ fed-after (seen before) f' s' (cellIn before) c (omega (arith, length-append f f')) (omega (arith, length-append f f'))
+            ∙ fed-after P (seen before) f' s' (cellIn before) c (omega (arith, length-append f f')) (omega (arith, length-append f f'))
             ∙ w .rest c (omega (arith, length-append f f')) l;
       }
     where
-      put : Put f' s' before after
+      put : Put P f' s' before after
       put = r .taken refl
 
-      t : T (inRange P) × T (isState grid before) × (length f' ≡ length s') × (seen before + length f' ≤ grid)
+      t : T (inRange P) × T (isState (P .mode) before) × (length f' ≡ length s') × (seen before + length f' ≤ grid)
       t = feeding-taken P before (length f') (length s') .0 (sym (ap (λ (x : Answer). x .number) (r .answer)))
 
       -- past the seam of two lists
@@ -158,42 +184,45 @@ module _ (P : Profile) where
       go : (c : ℕ)
           → c < length f + length f'
           → Dec (c < length f)
-          → cellIn after c ≡ cellByte (getD (f ++ f') c zeroPart) (getD (s ++ s') c zeroPart)
+          → cellIn after c ≡ byteAt P (f ++ f') (s ++ s') c
       go c h (yes l) =
           put .cells c (omega (arith, grid-fits (P .mode)))
-          ∙ fed-before (seen before) f' s' (cellIn before) c (omega arith) ∙ w .come c l
-          ∙ sym (ap₂ cellByte (List·getD-append f f' zeroPart c l) (List·getD-append s s' zeroPart c (omega arith)))
+          ∙ fed-before P (seen before) f' s' (cellIn before) c (omega arith) ∙ w .come c l
+          ∙ sym (ap₂ byte (List·getD-append f f' zeroPart c l) (List·getD-append s s' zeroPart c (omega arith)))
       go c h (no l) =
           put .cells c (omega (arith, t .3, grid-fits (P .mode)))
-          ∙ fed-in (seen before) f' s' (cellIn before) c (omega arith) (omega arith)
-          ∙ sym (ap₂ cellByte (past f f' c (c - seen before) (omega arith)) (past s s' c (c - seen before) (omega arith)))
+          ∙ fed-in P (seen before) f' s' (cellIn before) c (omega arith) (omega arith)
+          ∙ sym (ap₂ byte (past f f' c (c - seen before) (omega arith)) (past s s' c (c - seen before) (omega arith)))
 
   pub fed-left : {f s : List Float} {state : List ℕ} → Fed (FeedRule P) f s state → Left f s state
   fed-left Fed.new = left-new
   fed-left (Fed.piece f s f' s' before after h r) = left-piece f s f' s' before after (fed-left h) r
 
-  pub left-state : {f s : List Float} {state : List ℕ} → Left f s state → T (isState grid state)
-  left-state {f} {s} {state} w =
-      is-state grid state .1
+  pub left-state : {f s : List Float} {state : List ℕ} → Left f s state → T (isState (P .mode) state)
+  left-state {f} {s} {state} l =
+      is-state (P .mode) state .1
       (record {
-        long = w .long;
-        within = omega arith;
-        come = λ c h. omega (arith, w .come c (omega arith), decide-lt (getD f c zeroPart), decide-lt (getD s c zeroPart));
-        rest = λ c h l. w .rest c (omega arith) l;
+        long = l .long;
+        within = omega (arith, l .firsts, l .within);
+        come = λ c h. rw (l .come c (omega (arith, l .firsts))) (byte-lt P f s c);
+        rest = λ c h k. l .rest c (omega (arith, l .firsts)) k;
       })
 
-  fed-state : {f s : List Float} {state : List ℕ} → Fed (FeedRule P) f s state → T (isState grid state)
+  fed-state : {f s : List Float} {state : List ℕ} → Fed (FeedRule P) f s state → T (isState (P .mode) state)
   fed-state h = left-state (fed-left h)
 
   -- ---- 22 exactly
 
   -- one piece from the new state on leaves a state that passes the test
-  module _ (state : List ℕ) (w : IsState grid state) where
+  module _ (state : List ℕ) (is : IsState (P .mode) state) (range : T (inRange P)) where
+    good : Good w (P .level)
+    good = good-level P range
+
     firsts : List Float
-    firsts = made (seen state) (λ c. partFor (cellIn state c % 3))
+    firsts = made (seen state) (λ c. partFor w (P .level) two good (cellIn state c % choices w))
 
     seconds : List Float
-    seconds = made (seen state) (λ c. partFor (cellIn state c / 3))
+    seconds = made (seen state) (λ c. partFor w (P .level) two good (cellIn state c / choices w))
 
     firsts-long : length firsts ≡ seen state
     unfolding firsts
@@ -203,53 +232,59 @@ module _ (P : Profile) where
     unfolding seconds
     seconds-long = made-long (seen state) _
 
-    made-byte : (c k : ℕ) → c < seen state → k ≡ c → cellByte (getD firsts k zeroPart) (getD seconds k zeroPart) ≡ cellIn state c
+    made-byte : (c k : ℕ) → c < seen state → k ≡ c → byteAt P firsts seconds k ≡ cellIn state c
     unfolding firsts seconds
-    made-byte c k h e =
-        subst (λ (i : ℕ). cellByte (getD firsts i zeroPart) (getD seconds i zeroPart) ≡ cellIn state c) (sym e) (omega (arith, one, two))
+    made-byte c k h e = subst (λ (i : ℕ). byteAt P firsts seconds i ≡ cellIn state c) (sym e) (ap₂ (λ (a b : ℕ). a + choices w * b) one more ∙ byte .2)
       where
-        one : decide (getD firsts c zeroPart) ≡ cellIn state c % 3
-        one = ap decide (made-at (seen state) _ c zeroPart h) ∙ part-decides (cellIn state c % 3) (omega arith)
+        byte : (cellIn state c % choices w < choices w) × (cellIn state c / choices w < choices w)
+            × (cellIn state c % choices w + choices w * (cellIn state c / choices w) ≡ cellIn state c)
+        byte = byte-of (choices w) (cellIn state c) (is .come c h)
 
-        two : decide (getD seconds c zeroPart) ≡ cellIn state c / 3
-        two = ap decide (made-at (seen state) _ c zeroPart h) ∙ part-decides (cellIn state c / 3) (omega (arith, w .come c h))
+        one : decide w (P .level) (getD firsts c zeroPart) ≡ cellIn state c % choices w
+        one = ap (decide w (P .level)) (made-at (seen state) _ c zeroPart h) ∙ part-decides w (P .level) two good _ (byte .0)
 
-    made-cell : (c : ℕ) → 2 + c < 28674 → cellIn state c ≡ fedCell (seen newState) firsts seconds (cellIn newState) c
+        more : decide w (P .level) (getD seconds c zeroPart) ≡ cellIn state c / choices w
+        more = ap (decide w (P .level)) (made-at (seen state) _ c zeroPart h) ∙ part-decides w (P .level) two good _ (byte .1)
+
+    made-cell : (c : ℕ) → 2 + c < 28674 → cellIn state c ≡ fedCell P (seen newState) firsts seconds (cellIn newState) c
     made-cell c l = go (decLt c (seen state))
       where
-        go : Dec (c < seen state) → cellIn state c ≡ fedCell (seen newState) firsts seconds (cellIn newState) c
+        go : Dec (c < seen state) → cellIn state c ≡ fedCell P (seen newState) firsts seconds (cellIn newState) c
         go (yes h) =
-            sym (fed-in (seen newState) firsts seconds (cellIn newState) c (omega (arith, new-seen)) (omega (arith, new-seen, firsts-long))
+            sym (fed-in P (seen newState) firsts seconds (cellIn newState) c (omega (arith, new-seen)) (omega (arith, new-seen, firsts-long))
             ∙ made-byte c (c - seen newState) h (omega (arith, new-seen)))
         go (no h) =
-            w .rest c (omega arith) l
-            ∙ sym (fed-after (seen newState) firsts seconds (cellIn newState) c (omega (arith, new-seen)) (omega (arith, new-seen, firsts-long))
+            is .rest c (omega arith) l
+            ∙ sym (fed-after P (seen newState) firsts seconds (cellIn newState) c (omega (arith, new-seen)) (omega (arith, new-seen, firsts-long))
             ∙ new-row (2 + c))
 
-    made-rule : T (inRange P) → row state 1 < 256 → FeedRule P firsts seconds newState state (only 0)
-    made-rule range low =
+    made-rule : row state 1 < 256 → FeedRule P firsts seconds newState state (only 0)
+    made-rule low =
         record {
           answer =
               sym (or-zero P _
               (feeding-taken P newState (length firsts) (length seconds) .1
               (range, left-state left-new, firsts-long ∙ sym seconds-long, omega (arith, new-seen, firsts-long))));
-          long = w .long ∙ sym new-long;
+          long = is .long ∙ sym new-long;
           taken = λ z.
               record { high = omega (arith, new-seen, firsts-long); low = omega (arith, new-seen, firsts-long); cells = made-cell };
           kept = λ ne. absurd (ne refl);
         }
 
   module _ (state : List ℕ) (bytes : (i : ℕ) → row state i < 256) where
-    state-fed : T (inRange P) → T (isState grid state) → LeftBy (FeedRule P) state
+    state-fed : T (inRange P) → T (isState (P .mode) state) → LeftBy (FeedRule P) state
     state-fed range t =
-        let w = is-state grid state .0 t in
-        (firsts state w, seconds state w, Fed.piece [] [] (firsts state w) (seconds state w) newState state Fed.new (made-rule state w range (bytes 1)))
+        let is = is-state (P .mode) state .0 t in (
+          firsts state is range,
+          seconds state is range,
+          Fed.piece [] [] (firsts state is range) (seconds state is range) newState state Fed.new (made-rule state is range (bytes 1)),
+        )
 
     -- so the test passes exactly the states that pieces leave
-    left-by : T (inRange P) → T (isState grid state) ↔ LeftBy (FeedRule P) state
+    left-by : T (inRange P) → T (isState (P .mode) state) ↔ LeftBy (FeedRule P) state
     left-by range = (state-fed range, λ l. fed-state (l .2))
 
-    not-left : (T (inRange P) × ¬ T (isState grid state)) ↔ (T (inRange P) × ¬ LeftBy (FeedRule P) state)
+    not-left : (T (inRange P) × ¬ T (isState (P .mode) state)) ↔ (T (inRange P) × ¬ LeftBy (FeedRule P) state)
     not-left = ((λ q. (q .0, λ l. q .1 (left-by (q .0) .1 l))), λ q. (q .0, λ t. q .1 (left-by (q .0) .0 t)))
 
   pub feed-22 : (f s : List Float) (before after : List ℕ) (a : Answer)
@@ -310,7 +345,7 @@ module _ (P : Profile) where
       w : Left f s state
       w = fed-left h
 
-      iff : (n .number ≡ 0) ↔ (T (inRange P) × T (isState grid state) × (length before ≡ 122 * P .k) × (seen state ≡ grid))
+      iff : (n .number ≡ 0) ↔ (T (inRange P) × T (isState (P .mode) state) × (length before ≡ 122 * P .k) × (seen state ≡ grid))
       iff = asking-0 P state (length before)
 
   pub one-feeding : (f s : List Float) (before after after' : List ℕ) (a b : Answer)
@@ -330,7 +365,7 @@ module _ (P : Profile) where
           e' = sym same ∙ e
 
           long : length before ≡ 28674
-          long = is-state grid before .0 (feeding-taken P before (length f) (length s) .0 (sym (ap (λ (z : Answer). z .number) (x .answer)) ∙ e) .1) .long
+          long = is-state (P .mode) before .0 (feeding-taken P before (length f) (length s) .0 (sym (ap (λ (z : Answer). z .number) (x .answer)) ∙ e) .1) .long
 
           each : (i : ℕ) → i < length after → row after i ≡ row after' i
           each zero h = x .taken e .high ∙ sym (y .taken e' .high)

@@ -1,15 +1,14 @@
 -- What is judged goes by the block's own bits alone; and the packets' judgements, with what the outer code makes of them, are the block's.
 use mathlib.Core.Path.{_≡_, refl, sym, _∙_, ap}
-use mathlib.Core.Bool.{Bool, true, false}
+use mathlib.Core.Bool.{Bool}
 use mathlib.Core.List.{List}
 use Prim.Native.Nat.{ℕ, _+_, _*_, _/_, _%_, _<_}
 use native.Mathlib.Omega.{arith}
-use lib.Dec.{eqb}
 use lib.Ieee.{Float}
 use borrow.Author.Tests.{eq-eqb}
 use Rattle.rules.specs.Bits.{pick, row}
 use Rattle.rules.specs.Outer.{column, marked}
-use Rattle.rules.specs.Slots.{packetBits, slotBits, slots, symbols}
+use Rattle.rules.specs.Modes.{packetBits, slotBits, slots, symbols}
 use Rattle.rules.specs.Block.{packetPart, decidedData, byteOf, scrambler, unscrambled, understood, inBlock, decided, Delivered, Judged}
 use Rattle.rules.specs.Pieces.{byteAt, keptBit}
 use Rattle.rules.specs.declared.Profile.{Profile}
@@ -17,21 +16,12 @@ use Rattle.rules.specs.declared.Receipt.{Receipt}
 use Rattle.laws.specs.Holds.{Holds}
 use Rattle.laws.specs.Filled.{upTo-below}
 use Rattle.laws.specs.Mask.{mask-same, mask-kept}
-use Rattle.laws.specs.Parts.{part-within}
 use Rattle.cells.proofs.Reading.{kept-heard, kept-same}
-use Rattle.profile.proofs.Entries.{slots-most}
+use Rattle.modes.proofs.Figures.{block-most, in-block, in-slot}
 use Rattle.turbo.specs.Blocks.{reasonAt, keptAt, WeighedTo}
 use Rattle.turbo.proofs.Weighing.{bytes-same, reason-same, kept-at}
 use Rattle.block.specs.Steps.{scrambledRow}
 use Rattle.receiving.specs.Steps.{KeptBits}
-
--- the bits of a block are those of its 16 packets, and of its slots
-block-bits : (m : ℕ) → packetBits m * 16 ≡ slotBits m * slots m
-block-bits m = go (eqb m 0)
-  where
-    go : (b : Bool) → pick b 3000 2000 * 16 ≡ 1000 * (16 * pick b 3000 2000 / 1000)
-    go true = refl
-    go false = refl
 
 -- delivering goes by the packets that aren't lost
 pub delivered-same : {k lost n : ℕ} {f g : ℕ → ℕ → ℕ} {before after : List ℕ}
@@ -45,10 +35,6 @@ delivered-same e (Delivered.noCodeword few j l none kept) =
     Delivered.noCodeword few j l (λ c word agree. none c word (λ p q z. agree p q z ∙ sym (e p j q l z))) kept
 
 -- ---- the whole block
-
--- bit i of packet p is one of the block's
-part-lt : (m p i : ℕ) → p < 16 → i < packetBits m → packetBits m * p + i < slotBits m * slots m
-part-lt m p i q h = omega (arith, part-within (packetBits m) p 16 q, block-bits m)
 
 -- a bit said in another way is unscrambled alike
 pub again : (P : Profile) (g : ℕ) {x y : ℕ} → x ≡ y
@@ -78,7 +64,7 @@ module _ (P : Profile) (marks : ℕ) {before after : List ℕ} {a : Receipt} whe
       new = packetPart (P .mode) w
 
       here : (p : ℕ) → p < 16 → (i : ℕ) → i < packetBits (P .mode) → old p i ≡ new p i
-      here p q i lt = same (packetBits (P .mode) * p + i) (part-lt (P .mode) p i q lt)
+      here p q i lt = same (packetBits (P .mode) * p + i) (in-block (P .mode) p i q lt)
 
   -- the reasons, the lost mask and the block of accepted packets make the judgement, with what the outer code makes of them
   pub weighed-judged : (v : ℕ → ℕ) (block : List ℕ)
@@ -112,37 +98,37 @@ module _ (P : Profile) (marks : ℕ) {before after : List ℕ} {a : Receipt} whe
 
   -- the bits that were judged are those that came, unscrambled
   pub scrambled-judged : (bits plain : List ℕ)
-      → Holds 0 48000 (scrambledRow (P .seeds) (P .masks) (slotBits (P .mode) * slots (P .mode)) (row bits)) plain
+      → Holds 0 48000 (scrambledRow (slotBits (P .mode)) (P .seeds) (P .masks) (slotBits (P .mode) * slots (P .mode)) (row bits)) plain
       → Judged P marks (row plain) before after a
       → Judged P marks (understood P (row bits)) before after a
   scrambled-judged bits plain h =
       judged-same (row plain) (understood P (row bits))
-      (λ g lt. h .each g (omega (arith, slots-most (P .mode)))
+      (λ g lt. h .each g (omega (arith, block-most (P .mode)))
       ∙ upTo-below (understood P (row bits)) (row bits) (slotBits (P .mode) * slots (P .mode)) g lt)
 
   -- the block's bits that were read from the cells' bytes
   pub read-judged : (cells bits : List ℕ)
       → KeptBits (P .mode) cells bits
       → Judged P marks (understood P (row bits)) before after a
-      → Judged P marks (understood P (inBlock (P .mode) (keptBit (row cells)))) before after a
+      → Judged P marks (understood P (inBlock (P .mode) (keptBit (P .mode) (row cells)))) before after a
   read-judged cells bits h =
-      judged-same (understood P (row bits)) (understood P (inBlock (P .mode) (keptBit (row cells)))) (λ g lt. again P g (h g lt))
+      judged-same (understood P (row bits)) (understood P (inBlock (P .mode) (keptBit (P .mode) (row cells)))) (λ g lt. again P g (h g lt))
 
   -- where each byte is what its cell decides to, the bits are those that the grid's cells decide to
   pub kept-judged : (cells : ℕ → ℕ) (f s : List Float)
-      → ((c : ℕ) → c < 4096 * symbols (P .mode) → cells c ≡ byteAt f s c)
-      → Judged P marks (understood P (inBlock (P .mode) (keptBit cells))) before after a
+      → ((c : ℕ) → c < 4096 * symbols (P .mode) → cells c ≡ byteAt P f s c)
+      → Judged P marks (understood P (inBlock (P .mode) (keptBit (P .mode) cells))) before after a
       → Judged P marks (decided P f s) before after a
   unfolding decided
   kept-judged cells f s each =
-      judged-same (understood P (inBlock (P .mode) (keptBit cells))) (decided P f s)
-      (λ g lt. again P g (kept-heard cells (P .mode) f s each (g / slotBits (P .mode)) (g % slotBits (P .mode)) (omega arith) (omega arith)))
+      judged-same (understood P (inBlock (P .mode) (keptBit (P .mode) cells))) (decided P f s)
+      (λ g lt. again P g (kept-heard P cells f s each (g / slotBits (P .mode)) (g % slotBits (P .mode)) (in-slot (P .mode) g lt .0) (in-slot (P .mode) g lt .1)))
 
   -- the same bytes said in another way
   pub cells-judged : (cells cells' : ℕ → ℕ)
       → ((c : ℕ) → c < 4096 * symbols (P .mode) → cells c ≡ cells' c)
-      → Judged P marks (understood P (inBlock (P .mode) (keptBit cells))) before after a
-      → Judged P marks (understood P (inBlock (P .mode) (keptBit cells'))) before after a
+      → Judged P marks (understood P (inBlock (P .mode) (keptBit (P .mode) cells))) before after a
+      → Judged P marks (understood P (inBlock (P .mode) (keptBit (P .mode) cells'))) before after a
   cells-judged cells cells' each =
-      judged-same (understood P (inBlock (P .mode) (keptBit cells))) (understood P (inBlock (P .mode) (keptBit cells')))
-      (λ g lt. again P g (kept-same cells cells' (P .mode) each (g / slotBits (P .mode)) (g % slotBits (P .mode)) (omega arith) (omega arith)))
+      judged-same (understood P (inBlock (P .mode) (keptBit (P .mode) cells))) (understood P (inBlock (P .mode) (keptBit (P .mode) cells')))
+      (λ g lt. again P g (kept-same cells cells' (P .mode) each (g / slotBits (P .mode)) (g % slotBits (P .mode)) (in-slot (P .mode) g lt .0) (in-slot (P .mode) g lt .1)))

@@ -11,19 +11,20 @@ use lib.Seq.{length-take-le, getD-take, getD-set-same, getD-set-other}
 use borrow.Author.Tests.{eq-eqb}
 use Rattle.rules.specs.Bits.{row}
 use Rattle.rules.specs.Pieces.{seen, cellIn, byteAt, fedCell, Put}
+use Rattle.rules.specs.declared.Profile.{Profile}
 use Rattle.laws.specs.Holds.{Holds}
 use Rattle.laws.specs.Parts.{putPart, put-long, put-before, put-in, put-after}
 use Rattle.cells.specs.Reading.{DecideRule}
 use Rattle.receiving.proofs.Fed.{fed-before, fed-in, fed-after}
 
 -- what deciding leaves in a list that is as long as the piece's two
-pub piece-bytes : (f s : List Float) (before y : List ℕ) (r : Bool)
+pub piece-bytes : (P : Profile) (f s : List Float) (before y : List ℕ) (r : Bool)
     → length f ≡ length before
     → length s ≡ length before
-    → DecideRule f s before y r
-    → Holds 0 (length f) (byteAt f s) y
-piece-bytes f s before y r lf ls d =
-    subst (λ (k : ℕ). Holds 0 k (byteAt f s) y) (sym lf) (d .done (d .answer ∙ rw (eq-eqb _ _ lf, eq-eqb _ _ ls)))
+    → DecideRule (P .mode) (P .level) f s before y r
+    → Holds 0 (length f) (byteAt P f s) y
+piece-bytes P f s before y r lf ls d =
+    subst (λ (k : ℕ). Holds 0 k (byteAt P f s) y) (sym lf) (d .done (d .answer ∙ rw (eq-eqb _ _ lf, eq-eqb _ _ ls)))
 
 -- the first part of an array of zeros, and of an array whose first part was lent and came back
 pub zeros-long : (n m : ℕ) → m ≤ n → length {A = ℕ} (take m (replicate n 0)) ≡ m
@@ -40,8 +41,8 @@ module _ (n : ℕ) (y rest : List ℕ) (long : length y ≡ n) where
   front-at c h = getD-take n (y ++ rest) c 0 h ∙ List·getD-append y rest 0 c (omega arith)
 
 -- n cells have come, and the bytes y of a piece's cells are put after them
-module _ (f s : List Float) (state y : List ℕ) (n end high low : ℕ) (long : length state ≡ 28674) (count : n ≡ seen state)
-    (ends : end ≡ n + length f) (room : 2 + end ≤ 28674) (bytes : Holds 0 (length f) (byteAt f s) y) where
+module _ (P : Profile) (f s : List Float) (state y : List ℕ) (n end high low : ℕ) (long : length state ≡ 28674) (count : n ≡ seen state)
+    (ends : end ≡ n + length f) (room : 2 + end ≤ 28674) (bytes : Holds 0 (length f) (byteAt P f s) y) where
   middle : List ℕ
   middle = putPart (2 + n) (2 + end) state y
 
@@ -66,28 +67,28 @@ module _ (f s : List Float) (state y : List ℕ) (n end high low : ℕ) (long : 
   after-cell c =
       getD-set-other (set middle 0 high) 1 (2 + c) low 0 (λ e. omega arith) ∙ getD-set-other middle 0 (2 + c) high 0 (λ e. omega arith)
 
-  middle-cell : (c : ℕ) → 2 + c < 28674 → cellIn middle c ≡ fedCell (seen state) f s (cellIn state) c
+  middle-cell : (c : ℕ) → 2 + c < 28674 → cellIn middle c ≡ fedCell P (seen state) f s (cellIn state) c
   unfolding middle
   middle-cell c h = go (decLt c n) (decLt c end)
     where
-      go : Dec (c < n) → Dec (c < end) → cellIn (putPart (2 + n) (2 + end) state y) c ≡ fedCell (seen state) f s (cellIn state) c
+      go : Dec (c < n) → Dec (c < end) → cellIn (putPart (2 + n) (2 + end) state y) c ≡ fedCell P (seen state) f s (cellIn state) c
       go (yes l) r =
           put-before (2 + n) (2 + end) state (omega arith) (omega arith) y y-long (2 + c) 0 (omega arith)
-          ∙ sym (fed-before (seen state) f s (cellIn state) c (omega arith))
+          ∙ sym (fed-before P (seen state) f s (cellIn state) c (omega arith))
       go (no l) (yes r) =
           let at : 2 + c ≡ 2 + n + (c - seen state) = omega arith in
           ap (row (putPart (2 + n) (2 + end) state y)) at
           ∙ put-in (2 + n) (2 + end) state (omega arith) (omega arith) y y-long (c - seen state) 0 (omega arith)
           ∙ bytes .each (c - seen state) (omega arith)
-          ∙ sym (fed-in (seen state) f s (cellIn state) c (omega arith) (omega arith))
+          ∙ sym (fed-in P (seen state) f s (cellIn state) c (omega arith) (omega arith))
       go (no l) (no r) =
           let at : 2 + c ≡ 2 + end + (c - end) = omega arith in
           ap (row (putPart (2 + n) (2 + end) state y)) at
           ∙ put-after (2 + n) (2 + end) state (omega arith) (omega arith) y y-long (c - end) 0
           ∙ ap (row state) (sym at)
-          ∙ sym (fed-after (seen state) f s (cellIn state) c (omega arith) (omega arith))
+          ∙ sym (fed-after P (seen state) f s (cellIn state) c (omega arith) (omega arith))
 
-  pub put-done : high ≡ end / 256 → low ≡ end % 256 → Put f s state (set (set (putPart (2 + n) (2 + end) state y) 0 high) 1 low)
+  pub put-done : high ≡ end / 256 → low ≡ end % 256 → Put P f s state (set (set (putPart (2 + n) (2 + end) state y) 0 high) 1 low)
   unfolding after middle
   put-done h l =
       record {

@@ -5,13 +5,13 @@ ghost use lib.Dec.{T};
 ghost use lib.ListN.{length};
 ghost use Rattle.rules.specs.Bits.{row};
 ghost use Rattle.rules.specs.Outer.{isK, column};
-ghost use Rattle.rules.specs.Slots.{symbols};
+ghost use Rattle.rules.specs.Modes.{symbols};
 ghost use Rattle.rules.specs.Profile.{inRange};
 ghost use Rattle.rules.specs.Block.{understood, inBlock, Delivered, Judged};
 ghost use Rattle.rules.specs.Pieces.{keptBit};
 ghost use Rattle.receiving.specs.Steps.{KeptBits};
-use block::block_bits;
 use block::scrambled;
+use modes::block_bits;
 use rules::Profile;
 use rules::Receipt;
 
@@ -69,7 +69,7 @@ fn kept_bits(mode: u8, cells: &[u8]) -> [u8; 48000]
 // Judges what the cells of a whole grid decide to, and delivers the data.
 pub(crate) fn judge_cells(p: Profile, marks: u16, cells: &[u8], data: &mut [u8]) -> Receipt
     requires { ⌜ T (inRange p) × (length (now «data») ≡ 122 * p .k) × (length (now cells) ≡ 4096 * symbols (p .mode)) ⌝ }
-    ensures { λ r. ⌜ Judged p marks (understood p (inBlock (p .mode) (keptBit (row (now (cells .entry)))))) (now («data» .entry)) (now («data» .exit)) r ⌝ }
+    ensures { λ r. ⌜ Judged p marks (understood p (inBlock (p .mode) (keptBit (p .mode) (row (now (cells .entry)))))) (now («data» .entry)) (now («data» .exit)) r ⌝ }
 {
     judge(p, marks, kept_bits(p.mode, cells), data)
 }

@@ -8,7 +8,7 @@ mod judging;
 mod pieces;
 
 use block::early;
-use block::symbol_count;
+use modes::symbol_count;
 use rules::Answer;
 use rules::Profile;
 use rules::Receipt;
@@ -35,7 +35,7 @@ pub fn receive(p: Profile, marks: u16, firsts: &[f32], seconds: &[f32], data: &m
         return silence(a);
     }
     let mut decided = [0u8; 28672];
-    cells::decide_cells(firsts, seconds, &mut decided[..n]);
+    cells::decide_cells(p.mode, p.level, firsts, seconds, &mut decided[..n]);
     judging::judge_cells(p, marks, &decided[..n], data)
 }
 
@@ -45,7 +45,7 @@ pub fn feed(p: Profile, state: &mut [u8], firsts: &[f32], seconds: &[f32]) -> An
 {
     let a = pieces::feeding(p, state, firsts.len(), seconds.len());
     if a.number == 0 {
-        pieces::put(state, firsts, seconds);
+        pieces::put(p, state, firsts, seconds);
     }
     a
 }

@@ -3,11 +3,11 @@ ghost use mathlib.Core.Path.{_≡_};
 ghost use mathlib.Core.Logic.{_⊎_};
 ghost use Prim.Native.Nat.{_+_, _*_, _<_, _≤_};
 ghost use lib.ListN.{length};
-ghost use Rattle.rules.specs.Slots.{symbols};
+ghost use Rattle.rules.specs.Modes.{partBits};
 ghost use Rattle.rules.specs.Pieces as rule;
 ghost use Rattle.rules.specs.Pieces.{stateBytes, isState, Put};
 ghost use Rattle.receiving.specs.Steps.{Largest};
-use block::symbol_count;
+use modes::symbol_count;
 use profile::only;
 use rules::Answer;
 use rules::Profile;
@@ -44,9 +44,16 @@ fn largest(bytes: &[u8]) -> u8
     most
 }
 
+// The largest byte that a cell can have: 3 decisions a part, or 5 where it has two bits.
+fn most_byte(mode: u8) -> u8
+    ensures { λ r. ⌜ r + 1 ≡ rule.choices (partBits mode) * rule.choices (partBits mode) ⌝ }
+{
+    if modes::part_bits(mode) == 1 { 8 } else { 24 }
+}
+
 // Whether pieces of a grid of the mode leave this state.
 fn is_state(mode: u8, state: &[u8]) -> bool
-    ensures { λ r. ⌜ r ≡ isState (4096 * symbols mode) (now (state .entry)) ⌝ }
+    ensures { λ r. ⌜ r ≡ isState mode (now (state .entry)) ⌝ }
 {
     if state.len() != 28674 {
         return false;
@@ -55,7 +62,7 @@ fn is_state(mode: u8, state: &[u8]) -> bool
     if n > 4096 * symbol_count(mode) {
         return false;
     }
-    if largest(&state[2..2 + n]) > 8 {
+    if largest(&state[2..2 + n]) > most_byte(mode) {
         return false;
     }
     if largest(&state[2 + n..]) > 0 {
@@ -119,13 +126,19 @@ pub(crate) fn asking(p: Profile, state: &[u8], bytes: usize) -> Answer
 }
 
 // Puts the bytes of a piece's cells after those that have come, and counts them.
-pub(crate) fn put(state: &mut [u8], firsts: &[f32], seconds: &[f32])
+pub(crate) fn put(p: Profile, state: &mut [u8], firsts: &[f32], seconds: &[f32])
     requires { ⌜ (length (now state) ≡ stateBytes) × (length (now firsts) ≡ length (now seconds)) × (rule.seen (now state) + length (now firsts) + 2 ≤ stateBytes) ⌝ }
-    ensures { λ _. ⌜ Put (now (firsts .entry)) (now (seconds .entry)) (now (state .entry)) (now (state .exit)) ⌝ }
+    ensures { λ _. ⌜ Put p (now (firsts .entry)) (now (seconds .entry)) (now (state .entry)) (now (state .exit)) ⌝ }
 {
     let from = seen(state);
     let end = from + firsts.len();
-    cells::decide_cells(firsts, seconds, &mut state[2 + from..2 + end]);
+    cells::decide_cells(
+        p.mode,
+        p.level,
+        firsts,
+        seconds,
+        &mut state[2 + from..2 + end],
+    );
     state[0] = (end / 256) as u8;
     state[1] = (end % 256) as u8;
 }

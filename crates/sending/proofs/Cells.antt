@@ -7,8 +7,8 @@ use lib.Ieee.{Float}
 use lib.ListN.{length, take}
 use lib.Seq.{length-take-le, getD-take}
 use Rattle.rules.specs.Bits.{row}
-use Rattle.rules.specs.Slots.{slots, symbols}
-use Rattle.rules.specs.Points.{pointOf, firstPart, secondPart}
+use Rattle.rules.specs.Modes.{partBits, slotBits, slots, symbols}
+use Rattle.rules.specs.Points.{firstPart, secondPart}
 use Rattle.rules.specs.Cells.{carried}
 use Rattle.rules.specs.Block.{sentBit, cellFor, sentCell, Cells}
 use Rattle.rules.specs.declared.Profile.{Profile}
@@ -17,9 +17,10 @@ use Rattle.rules.specs.declared.Carried.the-variants.{Nothing, PointOf}
 use Rattle.rules.specs.declared.Cell.the-variants.{Carries}
 use Rattle.cells.specs.Symbol.{slotBit, symbolCell, Written}
 use Rattle.cells.proofs.Inverse.{cell-carried}
-use Rattle.laws.specs.Parts.{part-number, part-place}
+use Rattle.laws.specs.Parts.{part-number, part-place, part-within}
+use Rattle.laws.specs.Points.{point-same}
+use Rattle.modes.proofs.Figures.{figures, block-most}
 use Rattle.sending.specs.Steps.{Grid}
-use Rattle.block.proofs.Sizes.{whole-slots}
 use Rattle.sending.proofs.Sent.{SentRow}
 
 module _ (P : Profile) (d : List ℕ) where
@@ -29,28 +30,35 @@ module _ (P : Profile) (d : List ℕ) where
   -- ---- the first bits alone
 
   pub record Front (l : List ℕ) : Type 0 where
-    pub long : length l ≡ 1000 * slots m
+    pub long : length l ≡ slotBits m * slots m
     pub sent : SentRow P d l
 
-  pub front : (n : ℕ) (l : List ℕ) → n ≡ 1000 * slots m → length l ≡ 48000 → SentRow P d l → Front (take n l)
+  pub front : (n : ℕ) (l : List ℕ) → n ≡ slotBits m * slots m → length l ≡ 48000 → SentRow P d l → Front (take n l)
   front n l e long sent =
-      record { long = length-take-le n l (omega (arith, whole-slots m)) ∙ e; sent = λ g lt. getD-take n l g 0 (omega arith) ∙ sent g lt }
+      record { long = length-take-le n l (omega (arith, block-most m)) ∙ e; sent = λ g lt. getD-take n l g 0 (omega arith) ∙ sent g lt }
 
   -- ---- a cell has the bits of a point of the block
 
   module _ (l : List ℕ) (sent : SentRow P d l) where
-    slot-bit : (t i : ℕ) → t < slots m → i < 1000 → row l (1000 * t + i) ≡ sentBit P d t i
-    slot-bit t i t< i< = sent (1000 * t + i) (omega arith) ∙ ap₂ (sentBit P d) (part-number 1000 t i i<) (part-place 1000 t i i<)
+    slot-bit : (t i : ℕ) → t < slots m → i < slotBits m → row l (slotBits m * t + i) ≡ sentBit P d t i
+    slot-bit t i t< i< =
+        sent (slotBits m * t + i) (omega (arith, part-within (slotBits m) t (slots m) t<))
+        ∙ ap₂ (sentBit P d) (part-number (slotBits m) t i i<) (part-place (slotBits m) t i i<)
+
+    -- the bits of point i are among its slot's
+    point-bit : (i j : ℕ) → i < 500 → j < 2 * partBits m → 2 * partBits m * i + j < slotBits m
+    point-bit i j hi hj = omega (arith, figures m .slot, part-within (2 * partBits m) i 500 hi)
 
     cell-is : (y c : ℕ) → symbolCell m (P .level) l y c ≡ sentCell P d y c
     cell-is y c = go (carried m y c) refl
       where
-        go : (x : Carried) → carried m y c ≡ x → cellFor (P .level) (slotBit m l) x ≡ cellFor (P .level) (sentBit P d) x
+        go : (x : Carried) → carried m y c ≡ x
+            → cellFor (partBits m) (P .level) (slotBit m l) x ≡ cellFor (partBits m) (P .level) (sentBit P d) x
         go Nothing e = refl
         go (PointOf t i) e =
             let w = cell-carried m y c t i e in
-            ap₂ (λ (a b : ℕ). Carries (pointOf (P .level) a b)) (slot-bit t (2 * i) (w .0) (omega (arith, w .1)))
-            (slot-bit t (2 * i + 1) (w .0) (omega (arith, w .1)))
+            ap Carries (point-same (partBits m) (P .level) _ _ (figures m .part)
+            (λ j h. slot-bit t (2 * partBits m * i + j) (w .0) (point-bit i j (w .1) h)))
 
     -- one symbol, and all of them
     pub symbol-cells : (y : ℕ) (firsts seconds : List Float) → Written m (P .level) l y firsts seconds → Cells P d y 1 firsts seconds

@@ -2,7 +2,7 @@
 use mathlib.Core.List.{List}
 use Prim.Native.Nat.{ℕ, _*_, _/_, _%_}
 use lib.Ieee.{Float}
-use Rattle.rules.specs.Slots.{symbols}
+use Rattle.rules.specs.Modes.{symbols}
 use Rattle.rules.specs.Points.{zeroPart, firstPart, secondPart}
 use Rattle.rules.specs.declared.Cell.{Cell}
 use Rattle.laws.specs.Holds.{Holds}

@@ -5,14 +5,14 @@ ghost use lib.Dec.{T};
 ghost use lib.ListN.{length};
 ghost use Rattle.rules.specs.Bits.{row};
 ghost use Rattle.rules.specs.Outer.{isK};
-ghost use Rattle.rules.specs.Slots.{isMode, slots, slotBits, symbols};
+ghost use Rattle.rules.specs.Modes.{slots, slotBits, symbols};
 ghost use Rattle.rules.specs.Profile.{inRange};
 ghost use Rattle.rules.specs.Block.{packet, sentBit, SendRule, SendSymbolRule};
 ghost use Rattle.sending.specs.Steps.{Grid};
 use block::early;
 use block::scrambled;
-use block::slot_count;
-use block::symbol_count;
+use modes::block_bits;
+use modes::symbol_count;
 use profile::only;
 use rules::Answer;
 use rules::Profile;
@@ -78,7 +78,7 @@ pub fn send(p: Profile, data: &[u8], firsts: &mut [f32], seconds: &mut [f32]) ->
         return a;
     }
     let bits = sent_bits(p, data);
-    let n = 1000 * slot_count(mode);
+    let n = block_bits(mode);
     write_grid(mode, p.level, &bits[..n], firsts, seconds);
     a
 }
@@ -102,7 +102,7 @@ pub fn send_symbol(
         return only(8);
     }
     let bits = sent_bits(p, data);
-    let n = 1000 * slot_count(mode);
+    let n = block_bits(mode);
     cells::write_symbol(mode, p.level, &bits[..n], symbol, firsts, seconds);
     only(0)
 }

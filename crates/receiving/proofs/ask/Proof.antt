@@ -6,7 +6,7 @@ use lib.Dec.{T}
 use lib.ListN.{length}
 use borrow.Author.Needs.{needs}
 use Rattle.rules.specs.Bits.{row}
-use Rattle.rules.specs.Slots.{symbols}
+use Rattle.rules.specs.Modes.{symbols}
 use Rattle.rules.specs.Profile.{inRange}
 use Rattle.rules.specs.Block.{understood, inBlock}
 use Rattle.rules.specs.Pieces.{isState, seen, cellIn, keptBit, asking}
@@ -28,7 +28,7 @@ returns : tie.Need-returns
 returns c =
     let e = c .before .before .before in
     let a = e .before .before .before .args in
-    answered-refused (a .p) (a .marks) _ (understood (a .p) (inBlock (a .p .mode) (keptBit (cellIn (a .state .now))))) (a .«data» .now) (a .«data» .now)
+    answered-refused (a .p) (a .marks) _ (understood (a .p) (inBlock (a .p .mode) (keptBit (a .p .mode) (cellIn (a .state .now))))) (a .«data» .now) (a .«data» .now)
     (c .silence .result) (e .asking .result) (e .asking .ensures) (c .before .if1 .taken) (c .silence .ensures) refl
 
 -- the first answer is 0
@@ -38,7 +38,7 @@ zero c = sym (ap (λ (x : Answer). x .number) (c .before .before .asking .ensure
 -- the last cell has come
 passed : (c : tie.Else1)
     → let a = c .before .before .before .before .before .args in
-    T (inRange (a .p)) × T (isState (4096 * symbols (a .p .mode)) (a .state .now)) × (length (a .«data» .now) ≡ 122 * a .p .k)
+    T (inRange (a .p)) × T (isState (a .p .mode) (a .state .now)) × (length (a .«data» .now) ≡ 122 * a .p .k)
     × (seen (a .state .now) ≡ 4096 * symbols (a .p .mode))
 passed c =
     let a = c .before .before .before .before .before .args in
@@ -88,7 +88,7 @@ returns-2 c =
     let a = e .before .before .before .before .before .args in
     let long = is-state _ _ .0 (passed e .1) .long in
     let state = a .state .now in
-    answered-judged (a .p) (a .marks) _ (understood (a .p) (inBlock (a .p .mode) (keptBit (cellIn state)))) (a .«data» .now) _ (j .judge-cells .result)
+    answered-judged (a .p) (a .marks) _ (understood (a .p) (inBlock (a .p .mode) (keptBit (a .p .mode) (cellIn state)))) (a .«data» .now) _ (j .judge-cells .result)
     (zero e)
     (cells-judged (a .p) (a .marks) (row (part 2 (2 + 4096 * n .symbol-count .result) state)) (cellIn state)
     (λ c h.

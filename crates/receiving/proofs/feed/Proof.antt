@@ -5,7 +5,7 @@ use native.Mathlib.Omega.{arith}
 use lib.Dec.{T}
 use lib.ListN.{length}
 use borrow.Author.Needs.{needs}
-use Rattle.rules.specs.Slots.{symbols}
+use Rattle.rules.specs.Modes.{symbols}
 use Rattle.rules.specs.Profile.{inRange}
 use Rattle.rules.specs.Pieces.{isState, seen}
 use Rattle.rules.specs.declared.Answer.{Answer}
@@ -19,7 +19,7 @@ feeding-requires c κs = search needs
 -- the piece is taken
 taken : (c : tie.Then1)
     → let a = c .before .before .before .before .before .before .before .args in
-    T (inRange (a .p)) × T (isState (4096 * symbols (a .p .mode)) (a .state .now)) × (length (a .firsts .now) ≡ length (a .seconds .now))
+    T (inRange (a .p)) × T (isState (a .p .mode) (a .state .now)) × (length (a .firsts .now) ≡ length (a .seconds .now))
     × (seen (a .state .now) + length (a .firsts .now) ≤ 4096 * symbols (a .p .mode))
 taken c =
     let a = c .before .before .before .before .before .before .before .args in
@@ -42,7 +42,7 @@ returns c =
     let p = c .before .before .put in
     record {
       answer = t .before .before .feeding .ensures;
-      long = p .kept .0;
+      long = p .kept .1 .0;
       taken = λ _. p .ensures;
       kept = λ ne. absurd (ne (t .if1 .taken));
     }

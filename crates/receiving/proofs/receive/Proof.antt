@@ -6,7 +6,7 @@ use native.Mathlib.Omega.{arith}
 use lib.ListN.{length, take, drop, replicate}
 use borrow.Author.Needs.{needs}
 use Rattle.rules.specs.Bits.{row}
-use Rattle.rules.specs.Slots.{symbols}
+use Rattle.rules.specs.Modes.{symbols}
 use Rattle.rules.specs.Block.{early, decided}
 use Rattle.rules.specs.declared.Answer.{Answer}
 use Rattle.laws.specs.Holds.{Holds}
@@ -69,7 +69,7 @@ decide-cells-requires c κs = search needs
 
 -- what was decided, how many of it the grid has, and the zeros after it
 abbrev made : tie.After-decide-cells → List ℕ
-made c = c .decide-cells .last .1 .1 .0
+made c = c .decide-cells .last .1 .1 .1 .1 .0
 
 abbrev many : tie.After-decide-cells → ℕ
 many c = 4096 * c .before .before .before .before .before .symbol-count .result
@@ -79,13 +79,13 @@ rest c = drop (many c) (replicate 28672 0)
 
 bytes : (c : tie.After-decide-cells)
     → let a = c .before .before .before .before .before .before .before .before .before .args in
-    Holds 0 (length (a .firsts .now)) (byteAt (a .firsts .now) (a .seconds .now)) (made c)
+    Holds 0 (length (a .firsts .now)) (byteAt (a .p) (a .firsts .now) (a .seconds .now)) (made c)
 bytes c =
     let e = c .before .before in
     let a = e .before .before .before .before .before .before .before .args in
     let n = e .before .before .before .symbol-count in
     let long = zeros-long 28672 (4096 * n .result) (omega (arith, n .ensures .1)) in
-    piece-bytes (a .firsts .now) (a .seconds .now) _ _ _
+    piece-bytes (a .p) (a .firsts .now) (a .seconds .now) _ _ _
     (passed e .firsts-long ∙ ap (λ (k : ℕ). 4096 * k) (sym (n .ensures .0)) ∙ sym long)
     (passed e .seconds-long ∙ ap (λ (k : ℕ). 4096 * k) (sym (n .ensures .0)) ∙ sym long) (c .decide-cells .ensures)
 

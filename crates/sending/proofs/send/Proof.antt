@@ -3,7 +3,7 @@ use mathlib.Core.Path.{_≡_, refl, sym, _∙_, ap}
 use Prim.Native.Nat.{ℕ, _*_}
 use borrow.Author.Needs.{needs}
 use lib.ListN.{length, take}
-use Rattle.rules.specs.Slots.{symbols}
+use Rattle.rules.specs.Modes.{symbols}
 use Rattle.rules.specs.Block.{early}
 use Rattle.rules.specs.declared.Answer.{Answer}
 use Rattle.block.proofs.Passed.{Right, right}
@@ -36,13 +36,13 @@ passed : (c : tie.Else1)
 passed c = right _ _ _ _ _ (sym (ap (λ (x : Answer). x .number) (answer (c .before .before))) ∙ c .if1 .left)
 
 -- the bits that are lent
-lent : (c : tie.After-slot-count)
+lent : (c : tie.After-block-bits)
     → (let a = c .before .before .before .before .before .before .before .before .before .args in
-    Front (a .p) (a .«data» .now) (take (1000 * c .slot-count .result) (c .before .sent-bits .result)))
+    Front (a .p) (a .«data» .now) (take (c .block-bits .result) (c .before .sent-bits .result)))
 lent c =
     let a = c .before .before .before .before .before .before .before .before .before .args in
     let b = c .before .sent-bits in
-    front (a .p) (a .«data» .now) (1000 * c .slot-count .result) (b .result) (ap (λ (n : ℕ). 1000 * n) (c .slot-count .ensures .0))
+    front (a .p) (a .«data» .now) (c .block-bits .result) (b .result) (c .block-bits .ensures .0)
     (b .ok .1 .0 .1) (b .ensures)
 
 returns : tie.Need-returns
@@ -51,17 +51,14 @@ returns c = record { answer = answer (c .before .before); cells = λ z. absurd (
 sent-bits-requires : tie.Need-sent-bits-requires
 sent-bits-requires c κs = (passed c .range, passed c .data-long)
 
-slot-count-requires : tie.Need-slot-count-requires
-slot-count-requires c κs = search needs
-
-mul-n : tie.Need-mul-n
-mul-n c = search needs
+block-bits-requires : tie.Need-block-bits-requires
+block-bits-requires c κs = search needs
 
 array-share-prefix-bits : tie.Need-array-share-prefix-bits
 array-share-prefix-bits c = search needs
 
 slice-aggregate-write-grid : tie.Need-slice-aggregate-write-grid
-slice-aggregate-write-grid c = ap (λ (n : ℕ). 1000 * n) (c .before .slot-count .ensures .0) ∙ sym (lent (c .before) .long)
+slice-aggregate-write-grid c = c .before .block-bits .ensures .0 ∙ sym (lent (c .before) .long)
 
 write-grid-requires : tie.Need-write-grid-requires
 write-grid-requires c κs =
@@ -96,8 +93,7 @@ send-spec =
     early-requires
     returns
     sent-bits-requires
-    slot-count-requires
-    mul-n
+    block-bits-requires
     array-share-prefix-bits
     slice-aggregate-write-grid
     write-grid-requires

@@ -5,7 +5,7 @@ use native.Mathlib.Omega.{arith}
 use borrow.Author.Needs.{needs}
 use borrow.Author.Tests.{lt-ltb, le-ltb}
 use lib.ListN.{length, take}
-use Rattle.rules.specs.Slots.{symbols}
+use Rattle.rules.specs.Modes.{symbols}
 use Rattle.rules.specs.Block.{early}
 use Rattle.rules.specs.declared.Answer.{Answer}
 use Rattle.profile.proofs.Table.{first-passed, first-stays}
@@ -30,13 +30,13 @@ passed : (c : tie.Else1)
 passed c = right _ _ _ _ _ (zero c)
 
 -- the bits that are lent
-lent : (c : tie.After-slot-count)
+lent : (c : tie.After-block-bits)
     → (let a = c .before .before .before .before .before .before .before .before .before .before .args in
-    Front (a .p) (a .«data» .now) (take (1000 * c .slot-count .result) (c .before .sent-bits .result)))
+    Front (a .p) (a .«data» .now) (take (c .block-bits .result) (c .before .sent-bits .result)))
 lent c =
     let a = c .before .before .before .before .before .before .before .before .before .before .args in
     let b = c .before .sent-bits in
-    front (a .p) (a .«data» .now) (1000 * c .slot-count .result) (b .result) (ap (λ (n : ℕ). 1000 * n) (c .slot-count .ensures .0))
+    front (a .p) (a .«data» .now) (c .block-bits .result) (b .result) (c .block-bits .ensures .0)
     (b .ok .1 .0 .1) (b .ensures)
 
 returns : tie.Need-returns
@@ -67,17 +67,14 @@ returns-2 c =
 sent-bits-requires : tie.Need-sent-bits-requires
 sent-bits-requires c κs = let ok = passed (c .before .before) in (ok .range, ok .data-long)
 
-slot-count-requires : tie.Need-slot-count-requires
-slot-count-requires c κs = search needs
-
-mul-n : tie.Need-mul-n
-mul-n c = search needs
+block-bits-requires : tie.Need-block-bits-requires
+block-bits-requires c κs = search needs
 
 array-share-prefix-bits : tie.Need-array-share-prefix-bits
 array-share-prefix-bits c = search needs
 
 slice-aggregate-write-symbol : tie.Need-slice-aggregate-write-symbol
-slice-aggregate-write-symbol c = ap (λ (n : ℕ). 1000 * n) (c .before .slot-count .ensures .0) ∙ sym (lent (c .before) .long)
+slice-aggregate-write-symbol c = c .before .block-bits .ensures .0 ∙ sym (lent (c .before) .long)
 
 write-symbol-requires : tie.Need-write-symbol-requires
 write-symbol-requires c κs = tt
@@ -118,8 +115,7 @@ send-symbol-spec =
     only-requires
     returns-2
     sent-bits-requires
-    slot-count-requires
-    mul-n
+    block-bits-requires
     array-share-prefix-bits
     slice-aggregate-write-symbol
     write-symbol-requires

@@ -1,6 +1,6 @@
 -- `sending::sent_bits` meets its contract.
 use borrow.Author.Needs.{needs}
-use Rattle.block.proofs.Ranges.{ranges}
+use Rattle.profile.proofs.InRange.{ranges}
 use Rattle.sending.proofs.Sent.{sent-row}
 use Rattle.sending.proofs.sent_bits.Statement.{statement}
 use Rattle.sending.proofs.sent_bits.Tie as tie

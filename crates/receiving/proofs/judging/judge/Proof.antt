@@ -2,7 +2,7 @@
 use mathlib.Core.Path.{refl}
 use borrow.Author.Needs.{needs}
 use Rattle.rules.specs.Bits.{row}
-use Rattle.block.proofs.Ranges.{ranges}
+use Rattle.profile.proofs.InRange.{ranges}
 use Rattle.receiving.proofs.Judgement.{weighed-judged, scrambled-judged}
 use Rattle.receiving.proofs.judging.judge.Statement.{statement}
 use Rattle.receiving.proofs.judging.judge.Tie as tie

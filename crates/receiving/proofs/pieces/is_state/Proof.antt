@@ -35,13 +35,21 @@ part-largest-end c = search needs
 largest-requires : tie.Need-largest-requires
 largest-requires c κs = search needs
 
+most-byte-requires : tie.Need-most-byte-requires
+most-byte-requires c κs = search needs
+
 returns-3 : tie.Need-returns-3
 returns-3 c =
-    let l = c .before in
+    let b = c .before .most-byte in
+    let l = c .before .before in
     let s = l .before .before .before .before .seen in
     let a = l .before .before .before .before .before .before .before .args in
     fails _ _
-    (λ w. omega (arith, come-small (a .state .now) (s .result) (w .long) (s .ensures .0) (omega arith) (l .largest .result) (l .largest .ensures) _ w))
+    (λ w.
+    omega (
+      arith,
+      come-small (a .state .now) (s .result) (w .long) (s .ensures .0) (omega arith) (l .largest .result) (a .mode) (b .result) (l .largest .ensures) w (b .ensures),
+    ))
 
 add-largest-2 : tie.Need-add-largest-2
 add-largest-2 c = search needs
@@ -61,20 +69,22 @@ largest-requires-2 c κs = search needs
 returns-4 : tie.Need-returns-4
 returns-4 c =
     let l = c .before in
-    let s = l .before .before .before .before .before .before .before .seen in
-    let a = l .before .before .before .before .before .before .before .before .before .before .args in
+    let s = l .before .before .before .before .before .before .before .before .seen in
+    let a = l .before .before .before .before .before .before .before .before .before .before .before .args in
     fails _ _
-    (λ w. omega (arith, rest-zero (a .state .now) (s .result) (w .long) (s .ensures .0) (omega arith) (l .largest2 .result) (l .largest2 .ensures) _ w))
+    (λ w.
+    omega (arith, rest-zero (a .state .now) (s .result) (w .long) (s .ensures .0) (omega arith) (l .largest2 .result) (a .mode) (l .largest2 .ensures) w))
 
 returns-5 : tie.Need-returns-5
 returns-5 c =
-    let come = c .before .before .before .before .largest in
+    let b = c .before .before .before .before .most-byte in
+    let come = c .before .before .before .before .before .largest in
     let rest = c .before .largest2 in
-    let s = c .before .before .before .before .before .before .before .before in
+    let s = c .before .before .before .before .before .before .before .before .before in
     let a = s .before .before .before .args in
     passes _ _
     (small-zero (a .state .now) (s .seen .result) (s .before .if1 .left) (s .seen .ensures .0) (omega arith) (come .result) (rest .result)
-    (come .ensures) (rest .ensures) _ (omega arith) (omega arith) (omega arith))
+    (come .ensures) (rest .ensures) (a .mode) (b .result) (omega arith) (omega arith) (b .ensures) (omega arith))
 
 pub is-state-spec : {M : Type 1} → statement M
 is-state-spec =
@@ -90,6 +100,7 @@ is-state-spec =
     part-largest-start
     part-largest-end
     largest-requires
+    most-byte-requires
     returns-3
     add-largest-2
     sub-largest-2
