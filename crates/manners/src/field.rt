@@ -25,7 +25,7 @@ fn range(out: &mut [u8], at: usize, number: u32) -> usize {
             at,
             b"0x00800000 to 0x7f7fffff (positive, finite and normal)",
         ),
-        42 => put::bytes(out, at, b"0 and 1"),
+        42 => put::bytes(out, at, b"0 to 4"),
         43 => put::bytes(out, at, b"8, 12 and 14"),
         _ => put::bytes(out, at, b"1 to 1048575"),
     }
@@ -42,6 +42,29 @@ pub fn after(out: &mut [u8], at: usize, number: u32) -> usize {
     let at = put::bytes(out, at, b", ");
     let at = range(out, at, number);
     put::bytes(out, at, b" are allowed")
+}
+
+// The words after the value of a level that is in its range, and too large for 16QAM.
+pub fn after_in_mode(out: &mut [u8], at: usize) -> usize {
+    put::bytes(
+        out,
+        at,
+        b", 0x00800000 to 0x7eaaaaaa (so that 3 x level is finite) are allowed in modes 2 to 4",
+    )
+}
+
+// Whether a level is in its range, by its pattern: what refuses it is then the mode.
+fn is_level(x: u32) -> bool {
+    0x0080_0000 <= x && x <= 0x7F7F_FFFF
+}
+
+// The words after the value of a profile's field.
+pub(crate) fn after_value(out: &mut [u8], at: usize, number: u32, x: u32) -> usize {
+    if number == 41 && is_level(x) {
+        after_in_mode(out, at)
+    } else {
+        after(out, at, number)
+    }
 }
 
 // How many bytes of a profile each number of a field has; none where the number names no field.
@@ -64,7 +87,7 @@ pub(crate) fn index(number: u32, place: usize) -> usize {
 }
 
 // The number that a field's bytes spell.
-fn spelt(bytes: &[u8]) -> u32 {
+pub(crate) fn spelt(bytes: &[u8]) -> u32 {
     match bytes.len() {
         1 => super::quad(0, 0, 0, bytes[0]),
         4 => super::quad(bytes[0], bytes[1], bytes[2], bytes[3]),
@@ -72,9 +95,8 @@ fn spelt(bytes: &[u8]) -> u32 {
     }
 }
 
-// The value that a field's bytes spell.
-pub(crate) fn value(out: &mut [u8], at: usize, number: u32, bytes: &[u8]) -> usize {
-    let x = spelt(bytes);
+// The value of a profile's field.
+pub(crate) fn value(out: &mut [u8], at: usize, number: u32, x: u32) -> usize {
     if number == 41 {
         put::pattern(out, at, x)
     } else {

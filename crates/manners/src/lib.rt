@@ -241,11 +241,12 @@ fn refuse_at(number: u32, place: usize, bytes: &[u8]) {
     if n == 0 || bytes.len() < n {
         return refuse(number);
     }
+    let x = field::spelt(&bytes[0..n]);
     let mut out = [0u8; ROOM];
     let at = placed(&mut out, number, place as u64);
     let at = field::before(&mut out, at, number, field::index(number, place));
-    let at = field::value(&mut out, at, number, &bytes[0..n]);
-    let at = field::after(&mut out, at, number);
+    let at = field::value(&mut out, at, number, x);
+    let at = field::after_value(&mut out, at, number, x);
     put::say(&mut out, at);
 }
 

@@ -23,6 +23,7 @@ pub enum Fault {
     Empty,
     Twice,
     Missing,
+    Unsendable,
 }
 
 // What a word is as a number of a field.
@@ -219,8 +220,8 @@ pub fn has_mode(d: Draft) -> bool {
     d.counts[fields::MODE] != 0
 }
 
-// How many seeds there should be: in either mode at most, where the text gives none.
-pub fn due_seeds(d: Draft) -> usize
+// How many seeds there should be: in any mode at most, where the text gives none.
+fn due_seeds(d: Draft) -> usize
     ensures { λ r. ⌜ r ≤ 48 ⌝ }
 {
     if has_mode(d) {
@@ -230,13 +231,21 @@ pub fn due_seeds(d: Draft) -> usize
     }
 }
 
-// The draft at the end of the text: first what is too much, then what is missing, then what is too little.
+// Whether the mode that the text gives can send the level.
+fn is_sendable(d: Draft) -> bool {
+    fields::sends(d.values[fields::MODE_AT], d.values[fields::LEVEL_AT])
+}
+
+// The draft at the end of the text: first what is too much, then what is missing, then what is too little, then a level that the mode can't send.
 fn ended(d: Draft) -> Draft {
     let n = d.counts[fields::SEEDS];
     let due = due_seeds(d);
     let f = missing(d);
     if f < fields::FIELDS && n <= due {
         return marked(d, Fault::Missing, f, 0, 0);
+    }
+    if n == due && !is_sendable(d) {
+        return marked(d, Fault::Unsendable, fields::LEVEL, 0, 0);
     }
     marked(d, counted(n, due), fields::SEEDS, 0, 0)
 }

@@ -70,11 +70,24 @@ pub fn most(f: usize) -> usize
     }
 }
 
+// How many modes there are.
+pub const MODES: u32 = 5;
+
+// A number of a text as a mode's.
+fn mode_of(x: u32) -> u8 {
+    (x % 256) as u8
+}
+
 // How many seeds a mode has.
 pub fn seeds(mode: u32) -> usize
     ensures { λ r. ⌜ r ≤ 48 ⌝ }
 {
-    if mode == 0 { 48 } else { 32 }
+    modes::slot_count(mode_of(mode))
+}
+
+// Whether a mode can send D, by its pattern: of 16QAM the triple is finite.
+pub fn sends(mode: u32, level: u32) -> bool {
+    modes::part_bits(mode_of(mode)) == 1 || level <= 0x7EAA_AAAA
 }
 
 // The number that a fault in the field has in a profile.
@@ -92,7 +105,7 @@ pub fn refusal(f: usize) -> u32 {
 pub fn in_range(f: usize, x: u32) -> bool {
     match f {
         1 => 0x0080_0000 <= x && x <= 0x7F7F_FFFF,
-        2 => x <= 1,
+        2 => x < 256 && modes::is_mode(mode_of(x)),
         3 => x == 8 || x == 12 || x == 14,
         _ => 1 <= x && x <= 1_048_575,
     }

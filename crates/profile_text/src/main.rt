@@ -7,9 +7,9 @@
 //
 //     masks 1 2 3 4 5 6 7 8       eight, from 1 to 1048575
 //     level 1.5                   D: at most 7 digits, leading zeros aside, and at most 10 after the point; or the f32's pattern, 0x3FC00000
-//     mode 0                      0 or 1
+//     mode 0                      0 and 1: QPSK with rates 1/3 and 1/2; 2, 3 and 4: 16QAM with rates 1/3, 1/2 and 2/3, and 3 x D finite
 //     k 14                        8, 12 or 14
-//     seeds 1 2 3                 32 in mode 1, 48 in mode 0, from 1 to 1048575; more lines with seeds go on
+//     seeds 1 2 3                 48, 32, 24, 16 and 12 in modes 0 to 4, from 1 to 1048575; more lines with seeds go on
 //
 // Lines end as any editor ends them, and a byte order mark may stand before the text. A bad text, its first mistake, or a refused profile
 // gives one line on standard error and nothing on standard output. The bytes always come from profile::write, and what a profile says from
@@ -120,9 +120,9 @@ A text has one field a line, in any order; # starts a comment, blank lines are a
 
     masks 1 2 3 4 5 6 7 8       eight, from 1 to 1048575
     level 1.5                   D: at most 7 digits, leading zeros aside, and at most 10 after the point; or the f32's pattern, 0x3FC00000
-    mode 0                      0 or 1
+    mode 0                      0 and 1: QPSK with rates 1/3 and 1/2; 2, 3 and 4: 16QAM with rates 1/3, 1/2 and 2/3, and 3 x D finite
     k 14                        8, 12 or 14
-    seeds 1 2 3                 32 in mode 1, 48 in mode 0, from 1 to 1048575; more lines with seeds go on
+    seeds 1 2 3                 48, 32, 24, 16 and 12 in modes 0 to 4, from 1 to 1048575; more lines with seeds go on
 
 Standard error    a refused text: its first mistake. A refused profile: its number, and what it means, with the byte where a value is
                   outside its range. Trouble: what can't be read or written. Nothing is then written to standard output.

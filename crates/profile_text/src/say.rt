@@ -23,14 +23,29 @@ pub fn name(out: &mut [u8], at: usize, f: usize) -> usize {
     }
 }
 
+// How many seeds a mode has.
+fn in_mode(out: &mut [u8], at: usize, mode: u32) -> usize {
+    let at = put::decimal(out, at, fields::seeds(mode) as u64);
+    let at = put::bytes(out, at, b" in mode ");
+    put::decimal(out, at, mode as u64)
+}
+
+// How many seeds each mode has.
+fn in_modes(out: &mut [u8], at: usize) -> usize {
+    let mut at = in_mode(out, at, 0);
+    for mode in 1..fields::MODES {
+        at = put::bytes(out, at, b", ");
+        at = in_mode(out, at, mode);
+    }
+    at
+}
+
 // How many seeds there should be.
 fn due_seeds(out: &mut [u8], at: usize, d: Draft) -> usize {
-    if !draft::has_mode(d) {
-        put::bytes(out, at, b"48 in mode 0, 32 in mode 1")
-    } else if draft::due_seeds(d) == fields::seeds(0) {
-        put::bytes(out, at, b"48 in mode 0")
+    if draft::has_mode(d) {
+        in_mode(out, at, d.values[fields::MODE_AT])
     } else {
-        put::bytes(out, at, b"32 in mode 1")
+        in_modes(out, at)
     }
 }
 
@@ -83,6 +98,13 @@ fn outside(out: &mut [u8], at: usize, d: Draft, f: usize, s: &[u8]) -> usize {
     let at = field::before(out, at, number, given(d, f));
     let at = put::foreign(out, at, s);
     field::after(out, at, number)
+}
+
+// A level that the mode can't send; no decimal number of a text is so large, so it is shown by its pattern.
+fn unsendable(out: &mut [u8], at: usize, d: Draft) -> usize {
+    let at = field::before(out, at, fields::refusal(fields::LEVEL), 0);
+    let at = put::pattern(out, at, d.values[fields::LEVEL_AT]);
+    field::after_in_mode(out, at)
 }
 
 // A word that is no number, and what is one.
@@ -139,6 +161,7 @@ fn what(out: &mut [u8], at: usize, d: Draft, f: usize, s: &[u8]) -> usize {
             b"\" is an unknown word, the words are masks, level, mode, k and seeds",
         ),
         Fault::OutOfRange => outside(out, at, d, f, s),
+        Fault::Unsendable => unsendable(out, at, d),
         _ => {
             let at = name(out, at, f);
             let at = put::bytes(out, at, b": ");

@@ -1,11 +1,11 @@
 // A profile as text.
-ghost use Prim.Native.Nat.{_≤_};
+ghost use Prim.Native.Nat.{_≤_, _<_};
 use super::fields;
 use super::say;
 use manners::put;
 use rules::Profile;
 
-// So many seeds a line.
+// So many seeds a line; the last one may have fewer.
 const ROW: usize = 8;
 
 // A blank and a number.
@@ -25,13 +25,22 @@ fn line(out: &mut [u8], at: usize, f: usize, l: &[u32]) -> usize {
     put::bytes(out, at, b"\n")
 }
 
+// The end of the row that starts at place i.
+fn row_end(i: usize, n: usize) -> usize
+    requires { ⌜ i < n ⌝ }
+    ensures { λ r. ⌜ (i < r) × (r ≤ n) ⌝ }
+{
+    if n - i < ROW { n } else { i + ROW }
+}
+
 // Seeds in rows.
 fn seeds(out: &mut [u8], at: usize, l: &[u32]) -> usize {
     let mut at = at;
     let mut i = 0;
-    while i < l.len() / ROW {
-        at = line(out, at, fields::SEEDS, &l[ROW * i..ROW * i + ROW]);
-        i += 1;
+    while i < l.len() {
+        let e = row_end(i, l.len());
+        at = line(out, at, fields::SEEDS, &l[i..e]);
+        i = e;
     }
     at
 }

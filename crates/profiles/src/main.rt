@@ -24,7 +24,7 @@ fn compare(read: &[u8], written: &[u8], n: usize) {
     }
 }
 
-// What writing answers where the last of the 48 seeds is 1: it is one of the block's in mode 0, and in mode 1 an unused one, which is to be zero.
+// What writing answers where the last of the 48 seeds is 1: it is one of the block's in mode 0, and in any other mode an unused one, which is to be zero.
 fn with_last_seed(p: rules::Profile) {
     let mut q = p;
     q.seeds[47] = 1;

@@ -107,7 +107,7 @@ fn feed_one(p: Profile, state: &mut [u8]) -> Fed
 
 // The symbols in their order, up to a refusal, all into one state.
 fn feed_all(p: Profile, state: &mut [u8]) -> Fed {
-    let n = block::symbol_count(p.mode);
+    let n = modes::symbol_count(p.mode);
     let mut came: usize = 0;
     for y in 0..n {
         let fed = feed_one(p, state);
@@ -206,7 +206,7 @@ fn ask(p: Profile, marks: u16, state: &[u8], data: &mut [u8]) -> Receipt {
 
 // Feeds all cells, and asks for the data once the input has ended with them.
 fn receive_cells(p: Profile, marks: u16) -> Receipt {
-    let due = 2 * PARTS * block::symbol_count(p.mode);
+    let due = 2 * PARTS * modes::symbol_count(p.mode);
     let mut state = [0u8; STATE];
     let fed = feed_all(p, &mut state);
     let a = ended(fed.answer);
@@ -289,8 +289,8 @@ fn help() {
 Receives one block of MediaFLO cells by hard decisions.
 
 Standard input    two bytes of profile length, the profile, a mark mask of two bytes (bit p: packet p counts as lost), then for each
-                  symbol (7 in mode 0, 5 in mode 1) its 4096 first parts and its 4096 second parts, each an f32 of four bytes; all
-                  numbers high byte first. profile_text makes a profile.
+                  symbol (7, 5, 4, 3 and 2 in modes 0 to 4) its 4096 first parts and its 4096 second parts, each an f32 of four bytes;
+                  all numbers high byte first. profile_text makes a profile.
 Standard output   17 lines: the number and the lost mask, then each packet and the reason why it was lost (0: it was not), all decimal.
 FILE              at number 0 the data, 122 x K bytes. It is made beside FILE and takes its name when it is whole.
                   For a name that begins with a dash say ./-name.

@@ -55,7 +55,7 @@ fn send_one(p: Profile, data: &[u8], y: usize) -> bool {
 
 // The symbols in their order.
 fn send_all(p: Profile, data: &[u8]) {
-    let n = block::symbol_count(p.mode);
+    let n = modes::symbol_count(p.mode);
     for y in 0..n {
         if !send_one(p, data, y) {
             return;
@@ -112,8 +112,8 @@ Sends one block as MediaFLO cells.
 
 Standard input    two bytes of profile length, the profile, the data (122 x K bytes); all numbers high byte first.
                   profile_text makes a profile.
-Standard output   for each symbol (7 in mode 0, 5 in mode 1) its 4096 first parts, then its 4096 second parts, each an f32 of four bytes,
-                  high byte first. A refusal writes nothing there.
+Standard output   for each symbol (7, 5, 4, 3 and 2 in modes 0 to 4) its 4096 first parts, then its 4096 second parts, each an f32 of four
+                  bytes, high byte first. A refusal writes nothing there.
 Standard error    a refusal: its number, and what it means, with the byte of the profile where a value is outside its range.
                   Trouble: what can't be read or written.
 

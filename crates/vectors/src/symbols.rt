@@ -59,4 +59,18 @@ pub fn all() {
     symbol(1, 4);
     symbol(1, 5);
     edges(1, 4);
+    symbol(2, 0);
+    symbol(2, 2);
+    symbol(2, 3);
+    symbol(2, 4);
+    edges(2, 3);
+    symbol(3, 0);
+    symbol(3, 1);
+    symbol(3, 2);
+    symbol(3, 3);
+    edges(3, 2);
+    symbol(4, 0);
+    symbol(4, 1);
+    symbol(4, 2);
+    edges(4, 1);
 }

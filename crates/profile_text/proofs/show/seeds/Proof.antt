@@ -1,31 +1,25 @@
 -- The buffer keeps its length, and each row lies among the seeds.
 use mathlib.Core.Path.{_≡_}
-use Prim.Native.Nat.{_≤_, _-_, _*_}
+use Prim.Native.Nat.{_≤_, _-_}
 use lib.ListN.{length}
 use borrow.Author.Needs.{needs}
 use Rattle.profile_text.proofs.show.seeds.Statement.{statement}
 use Rattle.profile_text.proofs.show.seeds.Tie as tie
 
 abbrev Inv-loop : tie.InvT-loop
-Inv-loop out₀ at l at₀ i₀ out at' i = (8 * i ≤ length l) × (length out ≡ length out₀)
+Inv-loop out₀ at l at₀ i₀ out at' i = (i ≤ length l) × (length out ≡ length out₀)
 
 abbrev μ-loop : tie.MeasureT-loop
-μ-loop out₀ at l at₀ i₀ out at' i = length l - 8 * i
+μ-loop out₀ at l at₀ i₀ out at' i = length l - i
 
 loop-holds : tie.Need-loop-holds Inv-loop μ-loop
 loop-holds c = search needs
 
+row-end-requires : tie.Need-row-end-requires Inv-loop μ-loop
+row-end-requires c κs = search needs
+
 mul-line : tie.Need-mul-line Inv-loop μ-loop
 mul-line c = search needs
-
-mul-line-2 : tie.Need-mul-line-2 Inv-loop μ-loop
-mul-line-2 c = search needs
-
-add-line : tie.Need-add-line Inv-loop μ-loop
-add-line c = search needs
-
-mul-line-3 : tie.Need-mul-line-3 Inv-loop μ-loop
-mul-line-3 c = search needs
 
 sub-line : tie.Need-sub-line Inv-loop μ-loop
 sub-line c = search needs
@@ -38,9 +32,6 @@ part-line-end c = search needs
 
 line-requires : tie.Need-line-requires Inv-loop μ-loop
 line-requires c κs = search needs
-
-add-i : tie.Need-add-i Inv-loop μ-loop
-add-i c = search needs
 
 loop-less : tie.Need-loop-less Inv-loop μ-loop
 loop-less c = search needs
@@ -61,15 +52,12 @@ seeds-spec =
     Inv-loop
     μ-loop
     loop-holds
+    row-end-requires
     mul-line
-    mul-line-2
-    add-line
-    mul-line-3
     sub-line
     part-line-start
     part-line-end
     line-requires
-    add-i
     loop-less
     loop-again
     same-length
