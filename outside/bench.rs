@@ -1,16 +1,17 @@
-//! The benchmark: time per block of the C library and of the plain Rust program, side by side in one run; then the outer parity of ten
-//! thousand blocks by both; then the library's time for a grid that is fed in pieces, beside its own time for the whole grid; then both
-//! programs' for comparing two grids. `run-bench` compiles and runs it.
+//! The benchmark: time per block of the C library and of the plain Rust program, side by side in one run, in every mode and also per bit; then the
+//! outer parity of ten thousand blocks by both; then the library's time for a grid that is fed in pieces, beside its own time for the whole grid;
+//! then both programs' for comparing two grids. `run-bench` compiles and runs it.
 
 #[allow(dead_code)]
 mod library;
 #[allow(dead_code)]
 mod plain;
 
-use plain::{Profile, BLOCK, CELLS, DIFFERENCE, PACKET, STATE};
+use plain::{Profile, BLOCK, CELLS, DIFFERENCE, PACKET, PACKETS, STATE};
 use std::hint::black_box;
 use std::time::{Duration, Instant};
 
+const MODES: [u8; 5] = [0, 1, 2, 3, 4];
 const SAMPLES: usize = 401;
 /// A sample repeats its call for at least this long: much longer than the clock's steps, much shorter than the turns in which the
 /// machine gives other processes time, so that most samples, and with them the median, see none of those.
@@ -21,6 +22,8 @@ struct Bench {
     profile: Vec<u8>,
     k: u8,
     r: usize,
+    /// Coded bits of the block.
+    coded: usize,
     data: Vec<u8>,
     firsts: Vec<f32>,
     seconds: Vec<f32>,
@@ -44,15 +47,15 @@ impl Bench {
         let (_, bytes, count) = plain::write_profile(&profile);
         let block = plain::block_of(k, &data).as_flattened().to_vec();
         assert_eq!(block.len(), BLOCK);
-        let (profile, r) = (bytes[..count].to_vec(), profile.r());
-        Bench { profile, k, r, room: data.clone(), data, firsts, seconds, block, state: vec![0; STATE] }
+        let (r, coded) = (profile.r(), PACKETS * profile.rate().length());
+        Bench { profile: bytes[..count].to_vec(), k, r, coded, room: data.clone(), data, firsts, seconds, block, state: vec![0; STATE] }
     }
 }
 
 /// What is timed: a name, and the call of either program. Each returns its number, which must be 0.
 type Job = (&'static str, fn(&mut Bench) -> u32, fn(&mut Bench) -> u32);
 
-const JOBS: [Job; 4] = [
+const JOBS: [Job; 3] = [
     (
         "send",
         |b| library::send(&b.profile, &b.data, &mut b.firsts, &mut b.seconds).number,
@@ -68,8 +71,10 @@ const JOBS: [Job; 4] = [
         |b| library::receive(&b.profile, marks(b.r), &b.firsts, &b.seconds, &mut b.room).number,
         |b| plain::receive_bytes(&b.profile, marks(b.r), &b.firsts, &b.seconds, &mut b.room).number,
     ),
-    ("outer parity", |b| library::parity(b.k, &mut b.block), |b| plain::parity(b.k, &mut b.block)),
 ];
+
+/// The same in every mode.
+const PARITY: Job = ("outer parity", |b| library::parity(b.k, &mut b.block), |b| plain::parity(b.k, &mut b.block));
 
 /// r packets, all of them data: every second one, as far as that goes.
 fn marks(r: usize) -> u16 {
@@ -200,7 +205,7 @@ fn print_cuttings() {
     println!("A grid in pieces, library alone: microseconds a grid, zeroing the state and asking once included, and as multiples of receive.");
     println!("Samples in turn as above; of the smaller pieces only in every {}th and {}th turn.", CUTTINGS[3].2, CUTTINGS[4].2);
     println!("{:<6}{:<5}{:<20}{:>10}{:>10}", "mode", "K", "", "time", "times");
-    for mode in [0, 1] {
+    for mode in MODES {
         let times = time_cuttings(mode, 12);
         for (cutting, time) in CUTTINGS.iter().zip(times) {
             println!("{mode:<6}{:<5}{:<20}{time:>10.1}{:>10.2}", 12, cutting.0, time / times[0]);
@@ -267,15 +272,24 @@ fn print_comparisons() {
     }
 }
 
+/// Times a job by both programs; the library's time also in nanoseconds per coded bit and per bit of data, so that modes can be compared.
+fn print_job(mode: u8, k: u8, job: &Job) {
+    let mut for_library = Bench::new(mode, k);
+    let (library, plain) = time(&mut for_library, &mut Bench::new(mode, k), job.1, job.2);
+    let [coded, data] = [for_library.coded, 8 * for_library.data.len()].map(|bits| 1000.0 * library / bits as f64);
+    println!("{mode:<6}{k:<5}{:<20}{library:>10.1}{plain:>10.1}{:>8.2}{coded:>12.2}{data:>12.2}", job.0, library / plain);
+}
+
 fn main() {
     println!("Time per block in microseconds, median of {SAMPLES} samples of {} or more, both programs in turn.", SAMPLE.as_micros());
     println!("Buffers, the same for both: each program has its own, reused from call to call and not cleared in between, so they");
     println!("hold the previous call's result and are warm in the caches. Every call but outer parity reads the profile's bytes anew.");
-    println!("{:<6}{:<5}{:<20}{:>10}{:>10}{:>8}", "mode", "K", "", "library", "plain", "ratio");
-    for (mode, k) in [0, 1].into_iter().flat_map(|mode| [8, 12, 14].map(|k| (mode, k))) {
-        for job in &JOBS {
-            let (library, plain) = time(&mut Bench::new(mode, k), &mut Bench::new(mode, k), job.1, job.2);
-            println!("{mode:<6}{k:<5}{:<20}{library:>10.1}{plain:>10.1}{:>8.2}", job.0, library / plain);
+    println!("The last two columns are the library's time in nanoseconds per coded bit of the block and per bit of its data.");
+    println!("{:<6}{:<5}{:<20}{:>10}{:>10}{:>8}{:>12}{:>12}", "mode", "K", "", "library", "plain", "ratio", "coded bit", "data bit");
+    for (mode, k) in MODES.into_iter().flat_map(|mode| [8, 12, 14].map(|k| (mode, k))) {
+        JOBS.iter().for_each(|job| print_job(mode, k, job));
+        if mode == 0 {
+            print_job(mode, k, &PARITY);
         }
     }
     print_parity();

@@ -4,7 +4,7 @@
 //! Most differences are made one by one, so that the list is known beforehand; so the plain program is tested as well.
 
 use crate::check_profile::{random_profile, written, KS, MODES};
-use crate::check_tools::{same, Call, Kind, Random, Room, Tally};
+use crate::check_tools::{same, Call, Given, Kind, Random, Room, Tally};
 use crate::library;
 use crate::plain::{self, Profile, CELLS, CELL_LENGTH, DIFFERENCE, DONE, LENGTHS_DIFFER, POINTS};
 use std::collections::BTreeMap;
@@ -60,7 +60,7 @@ fn compare(tally: &mut Tally, label: &str, lists: Lists, room: &Room<u32>, known
         ("plain: not the differences that were made", as_made(&own, own_count)),
         ("the grids were changed", kept),
     ];
-    tally.case(Call::Compare, label, number, own_number, &tests);
+    tally.case(Call::Compare, Given::NOTHING, label, number, own_number, &tests);
     if own_number == DONE {
         count_kinds(tally, firsts_a.len(), own_count as usize, own.lent().len());
     }
@@ -381,8 +381,10 @@ fn sent_cases(random: &mut Random, tally: &mut Tally, mode: u8, k: u8) {
     if !none.is_empty() || !in_block(&some) || !in_block(&many) || one != [2048] || all != block {
         tally.difference("compare, grids as sent: not the cells that must differ");
     }
-    let [firsts, seconds] = sent(&random_profile(random, 1 - mode, k), &data);
-    compare(tally, "the other mode's grid", [&grid[0], &grid[1], &firsts, &seconds], &Room::new(random, 60), None);
+    for other in MODES.into_iter().filter(|&other| other != mode) {
+        let [firsts, seconds] = sent(&random_profile(random, other, k), &data);
+        compare(tally, "another mode's grid", [&grid[0], &grid[1], &firsts, &seconds], &Room::new(random, 60), None);
+    }
 }
 
 pub fn run(random: &mut Random, tally: &mut Tally) {

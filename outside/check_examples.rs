@@ -1,8 +1,8 @@
-//! Document 01's printed examples, the ends of Req 01's order, and states of Req 02 worked out by hand and by flo.py, held against the plain
-//! program before it is used as a measure.
+//! Document 01's printed examples, the ends of Req 01's order, Req 06's figures, source document 000's points, and states and coded packets worked
+//! out by hand and by flo.py, held against the plain program before it is used as a measure.
 
-use crate::check_tools::Tally;
-use crate::plain::{self, Came, Encoder, Profile, CELLS, PACKET};
+use crate::check_tools::{Tally, LARGEST};
+use crate::plain::{self, Came, Encoder, Profile, Rate, CELLS, CODED, PACKET};
 
 /// Compares one example and counts a difference when it doesn't come out.
 fn example<T: PartialEq + std::fmt::Debug>(tally: &mut Tally, name: &str, came: T, printed: T) {
@@ -50,12 +50,69 @@ fn cells(tally: &mut Tally) {
     example(tally, "Req 01, at its end", plain::PLACES[497..].to_vec(), vec![127, 383, 255]);
 }
 
+/// What documents 01 and 02 say of each mode: bits of a packet and of a slot, slots, symbols.
+const FIGURES: [(usize, usize, usize, usize); 5] =
+    [(3000, 1000, 48, 7), (2000, 1000, 32, 5), (3000, 2000, 24, 4), (2000, 2000, 16, 3), (1500, 2000, 12, 2)];
+
+fn modes(tally: &mut Tally) {
+    for (mode, figures) in (0..).zip(FIGURES) {
+        let profile = Profile { mode, ..Profile::ZERO };
+        let came = (profile.rate().length(), profile.slot_bits(), profile.slots(), profile.symbols());
+        example(tally, "a mode's figures", came, figures);
+    }
+    // Three times the digits AAAAAA are 1FFFFFE, one less than which a float with the largest exponent can't have.
+    example(tally, "the largest level", (3.0 * f32::from_bits(LARGEST)).to_bits(), 0x7F7F_FFFF);
+    example(tally, "the next level", (3.0 * f32::from_bits(LARGEST + 1)).to_bits(), 0x7F80_0000);
+}
+
+/// Source document 000's table of 16QAM, row by row: s3 s2 s1 s0, m_Q, m_I.
+const POINTS_16: [([u8; 4], i8, i8); 16] = [
+    ([0, 0, 0, 0], 3, 3), ([0, 0, 0, 1], 3, 1), ([0, 0, 1, 1], 3, -1), ([0, 0, 1, 0], 3, -3),
+    ([0, 1, 0, 0], 1, 3), ([0, 1, 0, 1], 1, 1), ([0, 1, 1, 1], 1, -1), ([0, 1, 1, 0], 1, -3),
+    ([1, 1, 0, 0], -1, 3), ([1, 1, 0, 1], -1, 1), ([1, 1, 1, 1], -1, -1), ([1, 1, 1, 0], -1, -3),
+    ([1, 0, 0, 0], -3, 3), ([1, 0, 0, 1], -3, 1), ([1, 0, 1, 1], -3, -1), ([1, 0, 1, 0], -3, -3),
+];
+
+fn points(tally: &mut Tally) {
+    let (mut firsts, mut seconds) = (vec![0.0; CELLS], vec![0.0; CELLS]);
+    let profile = Profile { level: 0.5, mode: 1, ..Profile::ZERO };
+    plain::put_slot(&profile, 1, &[1, 0], &mut firsts, &mut seconds);
+    example(tally, "P11", (firsts[49], seconds[49]), (-0.5, 0.5));
+    for ([s3, s2, s1, s0], second, first) in POINTS_16 {
+        plain::put_slot(&Profile { mode: 4, ..profile }, 1, &[s0, s1, s2, s3], &mut firsts, &mut seconds);
+        example(tally, "a point of 16QAM", (firsts[49], seconds[49]), (first as f32 * 0.5, second as f32 * 0.5));
+    }
+}
+
+/// The same data as flo.py's.
+fn formula(count: usize) -> Vec<u8> {
+    (0..count).map(|i| ((i * i * 7 + i * 13 + 5) % 251) as u8).collect()
+}
+
+/// The first 32 bits of a coded packet and the last, as `python3 outside/flo.py vectors` prints them.
+fn coded(tally: &mut Tally) {
+    let packet: [u8; PACKET] = formula(PACKET).try_into().unwrap();
+    let bits = plain::packet_bits(&packet, plain::check_word(&packet), 0);
+    for (rate, first, last) in [
+        (Rate::Third, "01110010011000110101011101000110", "01000101011110110011100011100010"),
+        (Rate::Half, "01110010001101110100011000110100", "00000100110001010111101110000010"),
+        (Rate::TwoThirds, "01110011011101000110000101100100", "01010001000011000100011110111000"),
+    ] {
+        let mut coded = [0; CODED];
+        let coded = &mut coded[..rate.length()];
+        plain::encode(&bits, rate, coded);
+        let text: String = coded.iter().map(|bit| bit.to_string()).collect();
+        example(tally, "a coded packet by flo.py", (&text[..32], &text[text.len() - 32..]), (first, last));
+    }
+}
+
 /// K = 14, cells as sent, packets 2, 5 and 9 marked.
-fn report(tally: &mut Tally) {
-    let mut profile = Profile { masks: [1; 8], level: 1.0, mode: 1, k: 14, seeds: [0; 48] };
-    profile.seeds[..32].fill(1);
+fn report(tally: &mut Tally, mode: u8) {
+    let mut profile = Profile { masks: [1; 8], level: 1.0, mode, k: 14, seeds: [0; 48] };
+    let (slots, cells) = (profile.slots(), CELLS * profile.symbols());
+    profile.seeds[..slots].fill(1);
     let mut data = vec![0; profile.data_length()];
-    let (mut firsts, mut seconds) = (vec![0.0; 5 * CELLS], vec![0.0; 5 * CELLS]);
+    let (mut firsts, mut seconds) = (vec![0.0; cells], vec![0.0; cells]);
     plain::send(&profile, &data, &mut firsts, &mut seconds);
     let answer = plain::receive(&profile, 548, &firsts, &seconds, &mut data);
     example(tally, "the report's head", (answer.number, answer.lost), (9, 548));
@@ -76,26 +133,56 @@ fn state(tally: &mut Tally) {
     example(tally, "a state's length", came.state().len(), 28674);
 }
 
+/// The same in mode 4 with D = 0.5, so that the lines are -1, 0 and 1.
+fn qam_state(tally: &mut Tally) {
+    let profile = Profile { mode: 4, level: 0.5, ..Profile::ZERO };
+    let mut came = Came::nothing();
+    let (under, over) = (f32::from_bits(0x3F7F_FFFF), f32::from_bits(0x3F80_0001));
+    came.feed(&profile, &[1.5, -1.5, 0.5, -0.5, 0.0], &[-0.5, 0.5, -1.5, 1.5, 1.5]);
+    came.feed(&profile, &[under, 1.0, over, -under, -1.0, -over], &[over, under, 1.0, -over, -under, -1.0]);
+    came.feed(&profile, &[f32::NAN, f32::NEG_INFINITY, 1e-45, -0.0], &[f32::INFINITY, -1e-45, f32::NAN, -1.0]);
+    let bytes = [0, 15, 15, 11, 7, 3, 4, 2, 14, 20, 8, 19, 21, 4, 16, 22, 24, 0];
+    example(tally, "a state's bytes in mode 4", came.state()[..18].to_vec(), bytes.to_vec());
+    let one = [1.0; 2 * CELLS];
+    example(tally, "a cell too many in mode 4", came.feed(&profile, &one[14..], &one[14..]), 16);
+    example(tally, "all that lack in mode 4", came.feed(&profile, &one[15..], &one[15..]), 0);
+    example(tally, "a full state's ends in mode 4", (came.state()[0], came.state()[2 * CELLS + 1], came.state()[2 * CELLS + 2]), (0x20, 24, 0));
+}
+
 /// States after the first cells of a grid: the check words that `python3 outside/flo.py state` prints.
+const STATES: [(u8, [u16; 5]); 4] = [
+    (1, [0x8495, 0x089B, 0xB1FD, 0xE857, 0xE5FF]),
+    (2, [0x8495, 0x5424, 0x1AE6, 0x58BE, 0xACFD]),
+    (3, [0x8495, 0x5424, 0x3537, 0x4AC7, 0xAB3E]),
+    (4, [0x8495, 0x5424, 0x7FCD, 0x1BCF, 0x6FD2]),
+];
+
 fn states(tally: &mut Tally) {
-    let mut profile = Profile { level: 1.5, mode: 1, k: 8, ..Profile::ZERO };
-    (0..8).for_each(|i| profile.masks[i] = 37 * i as u32 + 1);
-    (0..32).for_each(|t| profile.seeds[t] = 977 * t as u32 + 1);
-    let data: Vec<u8> = (0..profile.data_length()).map(|i| ((i * i * 7 + i * 13 + 5) % 251) as u8).collect();
-    let (mut firsts, mut seconds) = (vec![0.0; 5 * CELLS], vec![0.0; 5 * CELLS]);
-    plain::send(&profile, &data, &mut firsts, &mut seconds);
-    let word = |count: usize| {
-        let mut came = Came::nothing();
-        came.feed(&profile, &firsts[..count], &seconds[..count]);
-        plain::check_word(&came.state()[..4300])
-    };
-    example(tally, "states by flo.py", [0, 50, 255, 256, 4200].map(word), [0x8495, 0x089B, 0xB1FD, 0xE857, 0xE5FF]);
+    for (mode, words) in STATES {
+        let mut profile = Profile { level: 1.5, mode, k: 8, ..Profile::ZERO };
+        let (slots, cells) = (profile.slots(), CELLS * profile.symbols());
+        (0..8).for_each(|i| profile.masks[i] = 37 * i as u32 + 1);
+        (0..slots).for_each(|t| profile.seeds[t] = 977 * t as u32 + 1);
+        let data = formula(profile.data_length());
+        let (mut firsts, mut seconds) = (vec![0.0; cells], vec![0.0; cells]);
+        plain::send(&profile, &data, &mut firsts, &mut seconds);
+        let word = |count: usize| {
+            let mut came = Came::nothing();
+            came.feed(&profile, &firsts[..count], &seconds[..count]);
+            plain::check_word(&came.state()[..4300])
+        };
+        example(tally, "states by flo.py", [0, 50, 255, 256, 4200].map(word), words);
+    }
 }
 
 pub fn run(tally: &mut Tally) {
     codes(tally);
     cells(tally);
-    report(tally);
+    modes(tally);
+    points(tally);
+    coded(tally);
+    (0..5).for_each(|mode| report(tally, mode));
     state(tally);
+    qam_state(tally);
     states(tally);
 }

@@ -1,12 +1,13 @@
-//! The tests of feeding and asking: grids cut in every way, with early questions, refused pieces and spoilt states between the pieces.
+//! The tests of feeding and asking: grids cut in every way, with early questions, refused pieces and spoilt states between the pieces; cells whose
+//! parts lie on the lines that decide and next to them.
 //!
 //! After every call the state is compared with the plain program's byte for byte; at a grid's end the answer is also compared with both
 //! programs' for the whole grid.
 
 use crate::check_profile::{damaged, random_profile, written, KS, MODES};
-use crate::check_receive::any_grid;
+use crate::check_receive::{any_grid, line_parts};
 use crate::check_send::often_right;
-use crate::check_tools::{Call, Random, Room, Tally};
+use crate::check_tools::{Call, Given, Random, Room, Tally};
 use crate::library;
 use crate::plain::{self, Answer, Came, Profile, Received, CELLS, PACKETS, STATE};
 
@@ -37,7 +38,7 @@ fn compare_feed(tally: &mut Tally, label: &str, profile: &[u8], state: &mut Room
         ("states differ", state.same(&own)),
         ("a refusal changed the state", library.number == 0 || state.same(&before)),
     ];
-    tally.case(Call::Feed, label, library, plain, &tests);
+    tally.case(Call::Feed, Given::bytes(profile), label, library, plain, &tests);
     *state = own;
 }
 
@@ -57,9 +58,9 @@ fn compare_ask(
         ("asking changed the state", state.same(&before)),
         ("plain: mask or reasons not zero", judged || (plain.lost == 0 && plain.reasons == [0; PACKETS])),
     ];
-    tally.case(Call::Ask, label, library.answer(), plain.answer(), &tests);
+    tally.case(Call::Ask, Given::bytes(profile), label, library.answer(), plain.answer(), &tests);
     if judged {
-        tally.reasons(&plain.reasons);
+        tally.reasons(profile[45], &plain.reasons);
     }
     *state = before;
     (library, data)
@@ -207,13 +208,38 @@ fn cut_case(random: &mut Random, tally: &mut Tally, spare: &[f32], (mode, k): (u
     feeding.at_end(random, tally);
 }
 
-fn cut_cases(random: &mut Random, tally: &mut Tally, spare: &[f32], mode: u8, k: u8) {
+fn cut_cases(random: &mut Random, tally: &mut Tally, spare: &[f32], mode: u8) {
     for size in [10, 63, 64, 65, 1000, 4095, 4096, 4097, 2 * CELLS, 7 * CELLS, 7 * CELLS] {
+        let k = random.pick(&KS);
         cut_case(random, tally, spare, (mode, k), Cutting::Even(size));
     }
-    for _ in 0..30 {
+    for k in KS.into_iter().cycle().take(48) {
         cut_case(random, tally, spare, (mode, k), Cutting::Mixed);
     }
+}
+
+/// Cells with every two of the parts on the lines and next to them: the bytes that they leave are known beforehand.
+fn line_case(random: &mut Random, tally: &mut Tally, mode: u8) {
+    let profile = random_profile(random, mode, 12);
+    let parts = line_parts(&profile);
+    let cells: Vec<(usize, usize)> = (0..parts.len()).flat_map(|i| (0..parts.len()).map(move |j| (i, j))).collect();
+    let (firsts, seconds): (Vec<f32>, Vec<f32>) = cells.iter().map(|&(i, j)| (parts[i].1, parts[j].1)).unzip();
+    let decision = |i: usize| match parts[i].2.as_deref() {
+        Some([sign]) => *sign,
+        Some([size, sign]) => 2 * size + sign,
+        _ => 2 * profile.part_bits() as u8,
+    };
+    let base = 1 + 2 * profile.part_bits() as u8;
+    let mut known = vec![0; STATE];
+    known[..2].copy_from_slice(&(cells.len() as u16).to_be_bytes());
+    known[2..].iter_mut().zip(&cells).for_each(|(byte, &(i, j))| *byte = decision(i) + base * decision(j));
+    let mut came = Came::nothing();
+    let plain = came.feed(&profile, &firsts, &seconds);
+    if plain != 0 || came.state() != known {
+        tally.difference("feed, parts on the lines: the plain program's state isn't the known one");
+    }
+    let mut state = lent(random, &[0; STATE]);
+    compare_feed(tally, "parts on the lines", &written(&profile), &mut state, (&firsts, &seconds), plain.into(), &known);
 }
 
 // ---- states from elsewhere: the plain program says by its own test whether any cells leave them
@@ -240,40 +266,46 @@ fn changed(random: &mut Random, state: &[u8], here: usize, cells: usize) -> Vec<
     }
     let (between, any) = (cells + 1 + random.below(7 * CELLS + 1 - cells), random.below(1 << 16));
     let swapped = (here as u16).swap_bytes() as usize;
-    for position in [0, here + 1, here + 2, cells, cells + 1, between, 5 * CELLS + 1, 7 * CELLS, 7 * CELLS + 1, 65535, any, swapped] {
+    let other = CELLS * random.pick(&[2, 3, 4, 5]);
+    for position in [0, here + 1, here + 2, cells, cells + 1, between, other, other + 1, 7 * CELLS, 7 * CELLS + 1, 65535, any, swapped] {
         all.push(moved(state, position));
     }
     if here > 0 {
         all.push(moved(state, here - 1));
         all.push(moved(&with_byte(state, here - 1, 0), here - 1));
         let come = random.below(here);
-        for (cell, byte) in [0, here - 1, come].into_iter().flat_map(|cell| [0, 8, 9, 10, 16, 128, 255].map(|byte| (cell, byte))) {
+        for (cell, byte) in [0, here - 1, come].into_iter().flat_map(|cell| [0, 8, 9, 10, 24, 25, 26, 128, 255].map(|byte| (cell, byte))) {
             all.push(with_byte(state, cell, byte));
         }
     }
     if here < 7 * CELLS {
         let unseen = here + random.below(7 * CELLS - here);
         let places = [here, cells - 1, cells, 7 * CELLS - 1, unseen].into_iter().filter(|&cell| (here..7 * CELLS).contains(&cell));
-        for (cell, byte) in places.flat_map(|cell| [1, 2, 8, 9, 255].map(|byte| (cell, byte))) {
+        for (cell, byte) in places.flat_map(|cell| [1, 2, 8, 9, 24, 25, 255].map(|byte| (cell, byte))) {
             all.push(with_byte(state, cell, byte));
         }
     }
     all
 }
 
-/// States of random bytes: of any, of those that a cell can have, and with the bytes of unseen cells zero, which is a good one.
+/// States of random bytes: of any, of those that a cell can have, and with the bytes of unseen cells zero, which are good ones: the first in every
+/// mode, the second in modes 2 to 4.
 fn random_states(random: &mut Random, here: usize) -> Vec<Vec<u8>> {
     let bytes: Vec<u8> = random.bytes(STATE);
-    let decisions: Vec<u8> = bytes.iter().map(|byte| byte % 9).collect();
-    let mut good = moved(&decisions, here);
-    good[2 + here..].fill(0);
-    vec![bytes.clone(), moved(&bytes, here), moved(&decisions, here), good]
+    let mut states = vec![bytes.clone(), moved(&bytes, here)];
+    for most in [9, 25] {
+        let decisions: Vec<u8> = bytes.iter().map(|byte| byte % most).collect();
+        let mut good = moved(&decisions, here);
+        good[2 + here..].fill(0);
+        states.extend([moved(&decisions, here), good]);
+    }
+    states
 }
 
 /// Feeds any piece to a state and asks with it, both with any profile.
 pub fn strange_case(random: &mut Random, tally: &mut Tally, spare: &[f32], profile: &[u8], state: &[u8], data: usize) {
     let here = if let [high, low, ..] = state { u16::from_be_bytes([*high, *low]) as usize } else { 0 };
-    let rest = (random.pick(&[5, 7]) * CELLS).saturating_sub(here);
+    let rest = (random.pick(&[2, 3, 4, 5, 7]) * CELLS).saturating_sub(here);
     let any = random.below(rest + 1);
     let count = random.pick(&[0, 1, 1, 2, any, any, rest, rest + 1, CELLS]);
     let other = if random.percent(80) { count } else { random.pick(&[0, 1, count + 1, rest]) };
@@ -296,15 +328,17 @@ fn some_state(random: &mut Random, mode: u8, k: u8, here: usize) -> Vec<u8> {
     came.state().to_vec()
 }
 
-/// States of this mode, good and spoilt, with another profile of this mode and with one of the other.
-fn strange_cases(random: &mut Random, tally: &mut Tally, spare: &[f32], mode: u8, k: u8) {
+/// States of this mode, good and spoilt, with another profile of this mode and with one of another, which may have more symbols or fewer.
+fn strange_cases(random: &mut Random, tally: &mut Tally, spare: &[f32], mode: u8) {
+    let k = random.pick(&KS);
     let cells = CELLS * random_profile(random, mode, k).symbols();
-    let any = random.below(cells);
-    for here in [0, 1, any, 5 * CELLS, cells - 1, cells] {
+    let (any, full) = (random.below(cells), CELLS * random.pick(&[2, 3, 4, 5]).min(cells / CELLS));
+    for here in [0, 1, any, full, cells - 1, cells] {
         let state = some_state(random, mode, k, here);
         let mut states = changed(random, &state, here, cells);
         states.extend(random_states(random, here));
-        for (state, mode) in states.iter().flat_map(|state| MODES.map(|mode| (state, mode))) {
+        for (state, is_own) in states.iter().flat_map(|state| [true, false].map(|is_own| (state, is_own))) {
+            let mode = if is_own { mode } else { random.pick(&MODES) };
             let k = random.pick(&KS);
             let profile = random_profile(random, mode, k);
             let data = if random.percent(85) { profile.data_length() } else { often_right(random, profile.data_length()) };
@@ -316,7 +350,7 @@ fn strange_cases(random: &mut Random, tally: &mut Tally, spare: &[f32], mode: u8
 /// Anything wrong at random, the profile too: which number is the first that fits?
 fn wrong_cases(random: &mut Random, tally: &mut Tally, spare: &[f32], mode: u8, k: u8) {
     let cells = CELLS * random_profile(random, mode, k).symbols();
-    for _ in 0..15 {
+    for _ in 0..9 {
         let here = random.below(cells + 1);
         let state = some_state(random, mode, k, here);
         let changed = changed(random, &state, here, cells);
@@ -332,12 +366,13 @@ fn wrong_cases(random: &mut Random, tally: &mut Tally, spare: &[f32], mode: u8, 
 
 pub fn run(random: &mut Random, tally: &mut Tally) {
     let spare = spare(random);
-    for (mode, k) in MODES.into_iter().flat_map(|mode| KS.map(|k| (mode, k))) {
-        cut_cases(random, tally, &spare, mode, k);
-        strange_cases(random, tally, &spare, mode, k);
-        wrong_cases(random, tally, &spare, mode, k);
+    for mode in MODES {
+        cut_cases(random, tally, &spare, mode);
+        strange_cases(random, tally, &spare, mode);
+        KS.into_iter().for_each(|k| wrong_cases(random, tally, &spare, mode, k));
+        (0..30).for_each(|_| line_case(random, tally, mode));
     }
-    for single in [(0, 12), (1, 8)] {
+    for single in [(0, 12), (2, 14), (4, 8)] {
         cut_case(random, tally, &spare, single, Cutting::Even(1));
     }
 }

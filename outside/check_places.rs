@@ -1,5 +1,5 @@
 //! Which field is at fault and where: each number of a profile outside its range, as bytes and as a value; several of them; and beside faults
-//! of the headers.
+//! of the headers. A level that is too large for modes 2 to 4 has its turn after the mode.
 //!
 //! What must be said is known beforehand in nearly all of these cases, so that the plain program is tested as well.
 
@@ -7,23 +7,26 @@ use crate::check_pieces::{spare, strange_case};
 use crate::check_profile::{expect, random_profile, write_case, written, KS, MODES, STARTS};
 use crate::check_receive::any_grid;
 use crate::check_send::{right_lengths, Sending};
-use crate::check_tools::{Random, Tally};
+use crate::check_tools::{Random, Tally, LARGEST};
 use crate::plain::{Answer, Profile, BAD_K, BAD_LEVEL, BAD_MASK, BAD_MODE, BAD_SEED, STATE};
 
-/// A number of a profile.
+/// A number of a profile that can be spoilt. `Large` is the level too, spoilt so that only modes 2 to 4 refuse it.
 #[derive(Clone, Copy, PartialEq)]
 pub enum Spot {
     Mask(usize),
     Level,
     Mode,
+    Large,
     K,
     Seed(usize),
 }
-use Spot::{Level, Mask, Mode, Seed, K};
+use Spot::{Large, Level, Mask, Mode, Seed, K};
 
-/// The first, one between and the last of each field. Mode 1 uses seeds 0 to 31, and of its unused ones these are again first, between, last.
-const SOME: [Spot; 12] =
-    [Mask(0), Mask(3), Mask(7), Level, Mode, K, Seed(0), Seed(15), Seed(31), Seed(32), Seed(40), Seed(47)];
+/// The first, one between and the last of each field, and of the seeds also the last used one and the first unused one of each mode.
+const SOME: [Spot; 18] = [
+    Mask(0), Mask(3), Mask(7), Level, Mode, Large, K, Seed(0), Seed(11), Seed(12), Seed(15), Seed(16), Seed(23), Seed(24), Seed(31), Seed(32),
+    Seed(40), Seed(47),
+];
 
 const BAD_STATES: [u32; 7] = [0, 1 << 20, (1 << 20) + 1, 1 << 24, 1 << 31, u32::MAX, 0xFFF0_0001];
 const BAD_UNUSED: [u32; 5] = [1, 5, (1 << 20) - 1, 1 << 20, u32::MAX];
@@ -32,28 +35,46 @@ const BAD_LEVELS: [u32; 14] = [
     0, 0x8000_0000, 1, 0x0040_0000, 0x007F_FFFF, 0x807F_FFFF, 0x8080_0000, 0xBF80_0000, 0xFF7F_FFFF, 0x7F80_0000, 0xFF80_0000,
     0x7F80_0001, 0x7FC0_0000, 0xFFFF_FFFF,
 ];
-const BAD_MODES: [u32; 4] = [2, 3, 128, 255];
+/// Right by themselves, but three times as much is infinite.
+const LARGE_LEVELS: [u32; 7] = [LARGEST + 1, LARGEST + 2, 0x7EC0_0000, 0x7F00_0000, 0x7F2A_AAAA, 0x7F2A_AAAB, 0x7F7F_FFFF];
+const BAD_MODES: [u32; 4] = [5, 6, 128, 255];
 const BAD_KS: [u32; 9] = [0, 2, 7, 9, 10, 11, 13, 16, 255];
 
 /// All numbers of a profile.
 fn all() -> impl Iterator<Item = Spot> {
-    (0..8).map(Mask).chain([Level, Mode, K]).chain((0..48).map(Seed))
+    (0..8).map(Mask).chain([Level, Mode, Large, K]).chain((0..48).map(Seed))
 }
 
 impl Spot {
     /// One in field f (from 0) of a profile that uses so many seeds.
     pub fn any_in(random: &mut Random, f: usize, slots: usize) -> Spot {
-        [Mask(random.below(8)), Level, Mode, K, Seed(random.below(slots))][f]
+        let level = random.pick(&[Level, Large]);
+        [Mask(random.below(8)), level, Mode, K, Seed(random.below(slots))][f]
     }
 
     fn field(self) -> usize {
         match self {
             Mask(_) => 0,
-            Level => 1,
+            Level | Large => 1,
             Mode => 2,
             K => 3,
             Seed(_) => 4,
         }
+    }
+
+    /// The field with whose value it is tested.
+    fn turn(self) -> usize {
+        if self == Large { Mode.field() } else { self.field() }
+    }
+
+    /// Its turn among all numbers.
+    fn rank(self) -> usize {
+        all().position(|spot| spot == self).unwrap()
+    }
+
+    /// Whether such a number is refused in that mode, if nothing else is.
+    fn is_bad_in(self, mode: u8) -> bool {
+        self != Large || mode >= 2
     }
 
     /// What is to be said when it is the first that is bad. Three bytes of tag and length stand before a field's value.
@@ -67,6 +88,7 @@ impl Spot {
             Seed(t) if t >= slots => &BAD_UNUSED,
             Mask(_) | Seed(_) => &BAD_STATES,
             Level => &BAD_LEVELS,
+            Large => &LARGE_LEVELS,
             Mode => &BAD_MODES,
             K => &BAD_KS,
         }
@@ -88,7 +110,7 @@ impl Spot {
     fn set(self, value: &mut Profile, bad: u32) {
         match self {
             Mask(i) => value.masks[i] = bad,
-            Level => value.level = f32::from_bits(bad),
+            Level | Large => value.level = f32::from_bits(bad),
             Mode => value.mode = bad as u8,
             K => value.k = bad as u8,
             Seed(t) => value.seeds[t] = bad,
@@ -101,27 +123,37 @@ fn expect_value(tally: &mut Tally, known: Answer, label: &str, value: &Profile) 
     tally.known(label, plain, known);
 }
 
-/// Spoils a right profile in these numbers, as a value and as bytes, and lets it be written and read: the first bad one is named. Bytes have no
-/// unused seeds.
+/// Spoils a right profile in these numbers, as a value and as bytes, and lets it be written and read: the first bad one is named, if there is one.
+/// Bytes have no unused seeds. A level is spoilt in one way only.
 fn spoilt(tally: &mut Tally, label: &str, right: &Profile, bad: &[(Spot, u32)]) {
     let (mut value, mut bytes) = (*right, written(right));
-    for &(spot, number) in bad {
+    let twice = bad.iter().any(|bad| bad.0 == Level);
+    let bad: Vec<(Spot, u32)> = bad.iter().copied().filter(|bad| !(twice && bad.0 == Large)).collect();
+    for &(spot, number) in &bad {
         spot.set(&mut value, number);
         if spot.answer().place < bytes.len() {
             spot.put(&mut bytes, number);
         }
     }
-    let first = bad.iter().map(|(spot, _)| spot.answer()).min_by_key(|answer| answer.place).unwrap();
+    let first = bad.iter().map(|bad| bad.0).filter(|spot| spot.is_bad_in(right.mode)).min_by_key(|spot| spot.rank());
+    let first = first.map_or(0.into(), Spot::answer);
     expect_value(tally, first, label, &value);
     expect(tally, if first.place < bytes.len() { first } else { 0.into() }, label, &bytes);
 }
 
-/// Each number alone, with every bad value of it.
+/// Each number alone, with every bad value of it; and levels on both sides of the ends of what a mode can send.
 fn alone(tally: &mut Tally, right: &Profile) {
     for spot in all() {
         spot.bad(right.slots()).iter().for_each(|&bad| spoilt(tally, "one bad number", right, &[(spot, bad)]));
     }
-    (2..=255).for_each(|mode| spoilt(tally, "any bad mode", right, &[(Mode, mode)]));
+    let right_levels = (LARGEST - 40..=LARGEST).chain([0x0080_0000, 0x0080_0001, 0x3F80_0000]);
+    for level in right_levels.map(f32::from_bits) {
+        expect_value(tally, 0.into(), "a right level", &Profile { level, ..*right });
+        expect(tally, 0.into(), "a right level", &written(&Profile { level, ..*right }));
+    }
+    (LARGEST + 1..LARGEST + 40).for_each(|level| spoilt(tally, "a large level", right, &[(Large, level)]));
+    (0x007F_FFC0..0x0080_0000).for_each(|level| spoilt(tally, "a subnormal level", right, &[(Level, level)]));
+    (5..=255).for_each(|mode| spoilt(tally, "any bad mode", right, &[(Mode, mode)]));
     (0..=255).filter(|&k| !KS.contains(&(k as u8))).for_each(|k| spoilt(tally, "any bad K", right, &[(K, k)]));
 }
 
@@ -162,12 +194,12 @@ fn headers(bytes: &[u8], f: usize) -> Vec<(Vec<u8>, u32)> {
 /// own, has its turn first, with place 0.
 fn beside_headers(random: &mut Random, tally: &mut Tally, right: &Profile) {
     let length = written(right).len();
-    for spot in SOME.into_iter().filter(|spot| spot.answer().place < length) {
+    for spot in SOME.into_iter().filter(|spot| spot.answer().place < length && spot.is_bad_in(right.mode)) {
         let mut bytes = written(right);
         spot.spoil(random, right.slots(), &mut bytes);
         for f in 0..5 {
             for (bytes, number) in headers(&bytes, f) {
-                expect(tally, if f > spot.field() { spot.answer() } else { number.into() }, "a bad number and a header's fault", &bytes);
+                expect(tally, if f > spot.turn() { spot.answer() } else { number.into() }, "a bad number and a header's fault", &bytes);
             }
         }
         for surplus in 1..5 {
@@ -177,20 +209,28 @@ fn beside_headers(random: &mut Random, tally: &mut Tally, right: &Profile) {
     }
 }
 
-/// The mode says how many seeds are due: bad modes with the other mode's seeds, the other mode with these.
+/// The mode says how many seeds are due: bad modes with another mode's seeds, another mode with these. If that mode can't send the level, that
+/// comes first.
 fn other_modes(random: &mut Random, tally: &mut Tally, right: &Profile) {
-    let other = random_profile(random, 1 - right.mode, right.k);
-    for mode in BAD_MODES {
-        let mut bytes = written(&other);
-        Mode.put(&mut bytes, mode);
-        expect(tally, Mode.answer(), "a bad mode, the other one's seeds", &bytes);
-        expect_value(tally, Mode.answer(), "a bad mode, the other one's seeds", &Profile { mode: mode as u8, ..other });
+    for mode in MODES.into_iter().filter(|&mode| mode != right.mode) {
+        let other = random_profile(random, mode, right.k);
+        for mode in BAD_MODES {
+            let mut bytes = written(&other);
+            Mode.put(&mut bytes, mode);
+            expect(tally, Mode.answer(), "a bad mode, another one's seeds", &bytes);
+            expect_value(tally, Mode.answer(), "a bad mode, another one's seeds", &Profile { mode: mode as u8, ..other });
+        }
+        let large = f32::from_bits(random.pick(&LARGE_LEVELS));
+        for level in [1.0, right.level, if right.mode < 2 { large } else { 1.0 }] {
+            let right = Profile { level, ..*right };
+            let refused = level.to_bits() > LARGEST && mode >= 2;
+            let seed = Seed(right.slots().min(other.slots())).answer();
+            expect_value(tally, if refused { Large.answer() } else { seed }, "another mode", &Profile { mode, ..right });
+            let mut bytes = written(&right);
+            Mode.put(&mut bytes, mode as u32);
+            expect(tally, if refused { Large.answer() } else { 3.into() }, "another mode", &bytes);
+        }
     }
-    let turned = Profile { mode: 1 - right.mode, ..*right };
-    expect_value(tally, Seed(32).answer(), "the other mode", &turned);
-    let mut bytes = written(right);
-    Mode.put(&mut bytes, turned.mode as u32);
-    expect(tally, 3.into(), "the other mode", &bytes);
 }
 
 /// Any numbers in any places of a value, near the ends of the ranges too.
@@ -200,7 +240,7 @@ fn any_values(random: &mut Random, tally: &mut Tally, right: &Profile) {
         let mut value = *right;
         for _ in 0..1 + random.below(3) {
             let any = random.next() as u32;
-            let ends = [0, 1, 2, 8, 14, (1 << 20) - 1, 1 << 20, any >> 12, any, u32::MAX];
+            let ends = [0, 1, 2, 4, 5, 8, 14, (1 << 20) - 1, 1 << 20, any >> 12, any, u32::MAX, LARGEST, LARGEST + 1, 0x7F7F_FFFF];
             random.pick(&all).set(&mut value, random.pick(&ends));
         }
         write_case(tally, "any numbers", &value);
@@ -213,7 +253,7 @@ fn each_call(random: &mut Random, tally: &mut Tally, spare: &[f32], right: &Prof
     let mut receiving = any_grid(random, right.mode, right.k);
     for lengths in [right_lengths(right, None), [0, 1, 2]] {
         receiving = receiving.resize(random, lengths[0], lengths[1], lengths[2]);
-        for spot in SOME.into_iter().filter(|spot| spot.answer().place < written(right).len()) {
+        for spot in SOME.into_iter().filter(|spot| spot.answer().place < written(right).len() && spot.is_bad_in(right.mode)) {
             let mut bytes = written(right);
             spot.spoil(random, right.slots(), &mut bytes);
             expect(tally, spot.answer(), LABEL, &bytes);

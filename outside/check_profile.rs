@@ -1,16 +1,17 @@
 //! Profiles: right ones, damaged ones, and the tests of reading and writing them. check_places.rs has those of numbers outside their range.
 
 use crate::check_places::Spot;
-use crate::check_tools::{same, Call, Random, Tally};
+use crate::check_tools::{same, Call, Given, Random, Tally, LARGEST};
 use crate::library;
 use crate::plain::{self, Answer, Profile, PROFILE};
 
-pub const MODES: [u8; 2] = [0, 1];
+pub const MODES: [u8; 5] = [0, 1, 2, 3, 4];
 pub const KS: [u8; 3] = [8, 12, 14];
 
 /// Where the five fields begin; the fifth goes to the end.
 pub const STARTS: [usize; 5] = [0, 35, 42, 46, 50];
-const EDGE_LEVELS: [u32; 5] = [0x0080_0000, 0x0080_0001, 0x7F7F_FFFF, 0x3F80_0000, 0x3F7F_FFFF];
+/// The smallest levels and the largest; those from the fourth on only modes 0 and 1 can send. Some between.
+const EDGE_LEVELS: [u32; 8] = [0x0080_0000, 0x0080_0001, LARGEST - 1, LARGEST, LARGEST + 1, 0x7F7F_FFFF, 0x3F80_0000, 0x3F7F_FFFF];
 
 /// Masks and seeds, at times the smallest or largest.
 fn random_state(random: &mut Random) -> u32 {
@@ -21,15 +22,16 @@ fn random_state(random: &mut Random) -> u32 {
     }
 }
 
-fn random_level(random: &mut Random) -> f32 {
-    if random.percent(20) {
-        return f32::from_bits(random.pick(&EDGE_LEVELS));
-    }
-    f32::from_bits(0x0080_0000 + random.below(0x7F00_0000) as u32)
+/// A level that the mode can send.
+pub fn random_level(random: &mut Random, mode: u8) -> f32 {
+    let most = if mode < 2 { 0x7F7F_FFFF } else { LARGEST };
+    let any = 0x0080_0000 + random.below((most - 0x0080_0000) as usize + 1) as u32;
+    let edge = random.pick(&EDGE_LEVELS);
+    f32::from_bits(if random.percent(20) && edge <= most { edge } else { any })
 }
 
 pub fn random_profile(random: &mut Random, mode: u8, k: u8) -> Profile {
-    let mut profile = Profile { level: random_level(random), mode, k, ..Profile::ZERO };
+    let mut profile = Profile { level: random_level(random, mode), mode, k, ..Profile::ZERO };
     profile.masks.iter_mut().for_each(|mask| *mask = random_state(random));
     let slots = profile.slots();
     profile.seeds[..slots].iter_mut().for_each(|seed| *seed = random_state(random));
@@ -43,7 +45,7 @@ pub fn written(profile: &Profile) -> Vec<u8> {
 }
 
 fn wrong_length(random: &mut Random, right: u16) -> u16 {
-    random.pick(&[0, right - 1, right + 1, right ^ 0x0100, right.swap_bytes(), 0xFFFF, 128, 192])
+    random.pick(&[0, right - 1, right + 1, right ^ 0x0100, right.swap_bytes(), 0xFFFF, 48, 64, 96, 128, 192])
 }
 
 /// One damage of a profile that is still in one piece; its kind and place are random.
@@ -71,7 +73,7 @@ fn damage(random: &mut Random, mut bytes: Vec<u8>) -> Vec<u8> {
             let place = random.below(bytes.len());
             bytes[place] = random.next() as u8;
         }
-        _ => bytes[STARTS[2] + 3] ^= 1,
+        _ => bytes[STARTS[2] + 3] = random.pick(&[0, 1, 2, 3, 4, 5]),
     }
     bytes
 }
@@ -95,7 +97,7 @@ fn read_case(tally: &mut Tally, label: &str, bytes: &[u8]) -> Answer {
     let (plain, ours) = plain::read_profile(bytes);
     let kept = library.number == 0 || same_profile(&theirs, &Profile::ZERO);
     let tests = [("profiles differ", same_profile(&theirs, &ours)), ("a refused profile isn't all zero", kept)];
-    tally.case(Call::ReadProfile, label, library, plain, &tests);
+    tally.case(Call::ReadProfile, Given::bytes(bytes), label, library, plain, &tests);
     plain
 }
 
@@ -165,7 +167,7 @@ pub fn write_case(tally: &mut Tally, label: &str, value: &Profile) -> Answer {
         ("counts differ", their_count == our_count),
         ("a refused profile isn't all zero", zero),
     ];
-    tally.case(Call::WriteProfile, label, library, plain, &tests);
+    tally.case(Call::WriteProfile, Given::value(value), label, library, plain, &tests);
     plain
 }
 

@@ -1,23 +1,70 @@
-//! The tests of receiving: clean grids, marks, every kind of fault in random packets, garbage elsewhere, refusals.
+//! The tests of receiving: clean grids, marks, other levels, every kind of fault in random packets and at their ends, parts on the lines that
+//! decide and next to them, garbage elsewhere, refusals.
 //!
 //! Where a fault is made so that its reason is known beforehand, that is compared too; so the plain receiver is tested as well.
 
 use crate::check_profile::{damaged, random_profile, written, KS, MODES};
 use crate::check_send::{near, often_right};
-use crate::check_tools::{Call, Random, Room, Tally};
-use crate::plain::{self, Block, Profile, CELLS, ENTERING, PACKET, PACKETS, POINTS, SLOT};
+use crate::check_tools::{Call, Given, Kind, Random, Room, Tally, LARGEST};
+use crate::plain::{self, Block, Profile, Rate, CELLS, ENTERING, PACKET, PACKETS, POINTS};
 use crate::plain::{ACCEPTED, CHECK_WORD, CODED_BITS, DOUBTFUL, MARKED, RESERVED};
 use crate::library;
 
-/// Stands among reasons for a packet destroyed in such a way that any reason may come of it.
+/// Stand among reasons for a packet destroyed in such a way that any reason may come of it, and for one to three wrong bits.
 const DESTROYED: u8 = 0;
-const FAULTS: [u8; 6] = [MARKED, DOUBTFUL, CHECK_WORD, RESERVED, CODED_BITS, DESTROYED];
+const FEW: u8 = 1;
+const FAULTS: [u8; 7] = [MARKED, DOUBTFUL, CHECK_WORD, RESERVED, CODED_BITS, DESTROYED, FEW];
 /// Both zeros and NaNs of both signs, quiet and signalling.
 const DOUBTS: [u32; 8] = [0, 0x8000_0000, 0, 0x8000_0000, 0x7FC0_0000, 0xFFC0_0000, 0x7F80_0001, 0xFFFF_FFFF];
-/// Infinity, the largest, the smallest normal, and subnormal numbers: no doubt in any of them.
+/// Infinity, the largest, the smallest normal, and subnormal numbers: in QPSK no doubt in any of them.
 const STRENGTHS: [u32; 6] = [0x7F80_0000, 0x7F7F_FFFF, 0x0080_0000, 0x007F_FFFF, 0x0000_0001, 0x3F80_0000];
 
+/// The float after a positive one, and the one before it.
+fn after(x: f32) -> f32 {
+    f32::from_bits(x.to_bits() + 1)
+}
+
+fn before(x: f32) -> f32 {
+    f32::from_bits(x.to_bits() - 1)
+}
+
+fn is_qam(profile: &Profile) -> bool {
+    profile.part_bits() == 2
+}
+
+/// A positive part of any size that decides as the inner level or as the outer one does; in QPSK there is one level.
+fn strength(random: &mut Random, profile: &Profile, is_inner: bool) -> f32 {
+    let (level, line) = (profile.level, 2.0 * profile.level);
+    if !is_qam(profile) {
+        f32::from_bits(random.pick(&STRENGTHS))
+    } else if is_inner {
+        let any = f32::from_bits(1 + random.below(line.to_bits() as usize - 1) as u32);
+        random.pick(&[level, before(line), before(level), f32::MIN_POSITIVE, f32::from_bits(0x007F_FFFF), f32::from_bits(1), any])
+    } else {
+        let any = f32::from_bits(line.to_bits() + 1 + random.below((0x7F80_0000 - line.to_bits()) as usize) as u32);
+        random.pick(&[3.0 * level, after(line), before(3.0 * level), f32::MAX, f32::INFINITY, any])
+    }
+}
+
+/// The reason when just these bits of a packet are wrong, one to three of them: three wrong bits are too few to make another check word right.
+fn reason_of(rate: Rate, wrong: &[usize]) -> u8 {
+    let length = rate.length();
+    // Output 4q + c of the bit interleaver is input (L/4)c + q.
+    let coded: Vec<usize> = wrong.iter().map(|b| length / 4 * (b % 4) + b / 4).collect();
+    let hits = |mut bits: std::ops::Range<usize>| bits.any(|i| coded.contains(&rate.place(i)));
+    if hits(0..992) {
+        CHECK_WORD
+    } else if hits(992..ENTERING) {
+        RESERVED
+    } else if coded.is_empty() {
+        ACCEPTED
+    } else {
+        CODED_BITS
+    }
+}
+
 /// What a receive is given, and what is known beforehand of its answer.
+#[derive(Clone)]
 pub struct Receiving {
     label: &'static str,
     pub profile: Profile,
@@ -35,20 +82,12 @@ pub struct Receiving {
 impl Receiving {
     /// A grid of these 16 packets, each with the faults listed for it.
     fn new(random: &mut Random, label: &'static str, profile: Profile, block: &Block, faults: &[Vec<u8>; PACKETS]) -> Receiving {
-        let cells = CELLS * profile.symbols();
-        let room = Room::new(random, profile.data_length());
-        let (firsts, seconds) = (vec![0.0; cells], vec![0.0; cells]);
-        let (bytes, reasons) = (written(&profile), [Some(ACCEPTED); PACKETS]);
-        let mut new = Receiving { label, profile, bytes, marks: 0, firsts, seconds, room, reasons, data: None };
-        for (p, packet) in block.iter().enumerate() {
-            new.put(random, p, packet, &faults[p]);
-        }
+        let mut new = Receiving::sent(random, label, profile, block, faults);
         if random.percent(30) {
             new.strengthen(random);
         }
         for (p, list) in faults.iter().enumerate() {
-            new.spoil(random, p, list);
-            new.reasons[p] = if list.contains(&DESTROYED) { None } else { Some(list.iter().copied().min().unwrap_or(ACCEPTED)) };
+            new.reasons[p] = new.spoil(random, p, list);
         }
         if random.percent(50) {
             new.garbage_elsewhere(random);
@@ -56,73 +95,115 @@ impl Receiving {
         new
     }
 
-    /// Writes a packet's own cells, coded as it should be; only check word and reserved bits may be wrong in it.
-    fn put(&mut self, random: &mut Random, p: usize, packet: &[u8; PACKET], faults: &[u8]) {
-        let any = 1 + random.below(0xFFFF) as u16;
-        let turned = if faults.contains(&CHECK_WORD) { random.pick(&[1, 0x8000, 0xFFFF, any]) } else { 0 };
-        let reserved = if faults.contains(&RESERVED) { random.pick(&[1, 2, 3]) } else { 0 };
-        let bits = plain::packet_bits(packet, plain::check_word(packet) ^ turned, reserved);
-        let all = 0..self.profile.symbols();
-        plain::put_packet(&self.profile, p, &bits, &all, &mut self.firsts, &mut self.seconds);
+    /// The packets' own cells, coded as they should be; only check words and reserved bits may be wrong in them.
+    fn sent(random: &mut Random, label: &'static str, profile: Profile, block: &Block, faults: &[Vec<u8>; PACKETS]) -> Receiving {
+        let cells = CELLS * profile.symbols();
+        let room = Room::new(random, profile.data_length());
+        let (mut firsts, mut seconds) = (vec![0.0; cells], vec![0.0; cells]);
+        let mut packets = [[0; ENTERING]; PACKETS];
+        for (p, packet) in block.iter().enumerate() {
+            let any = 1 + random.below(0xFFFF) as u16;
+            let turned = if faults[p].contains(&CHECK_WORD) { random.pick(&[1, 0x8000, 0xFFFF, any]) } else { 0 };
+            let reserved = if faults[p].contains(&RESERVED) { random.pick(&[1, 2, 3]) } else { 0 };
+            packets[p] = plain::packet_bits(packet, plain::check_word(packet) ^ turned, reserved);
+        }
+        plain::put_block(&profile, &packets, &(0..profile.symbols()), &mut firsts, &mut seconds);
+        Receiving { label, profile, bytes: written(&profile), marks: 0, firsts, seconds, room, reasons: [Some(ACCEPTED); PACKETS], data: None }
     }
 
     /// The part that carries bit b of packet p.
     fn part(&mut self, p: usize, b: usize) -> &mut f32 {
-        let (symbol, number) = plain::slot_place(p * self.profile.n() + b / SLOT);
-        let cell = CELLS * symbol + plain::point_cell(number, b % SLOT / 2);
-        if b % 2 == 0 { &mut self.firsts[cell] } else { &mut self.seconds[cell] }
+        let (width, size) = (self.profile.part_bits(), self.profile.slot_bits());
+        let place = p * self.bits() + b;
+        let (symbol, number) = plain::slot_place(place / size);
+        let cell = CELLS * symbol + plain::point_cell(number, place % size / (2 * width));
+        if place / width % 2 == 0 { &mut self.firsts[cell] } else { &mut self.seconds[cell] }
     }
 
+    /// Bits of a packet.
     fn bits(&self) -> usize {
-        self.profile.n() * SLOT
+        self.profile.rate().length()
     }
 
-    /// Other values of the same sign in a part of all bits.
+    /// The first bit of each part of a packet.
+    fn parts(&self) -> std::iter::StepBy<std::ops::Range<usize>> {
+        (0..self.bits()).step_by(self.profile.part_bits())
+    }
+
+    /// Turns a bit over: a part's sign, or in 16QAM with its first bit the size.
+    fn turn(&mut self, random: &mut Random, p: usize, b: usize) {
+        let (profile, part) = (self.profile, *self.part(p, b));
+        let is_size = is_qam(&profile) && b % 2 == 0;
+        *self.part(p, b) = if is_size { strength(random, &profile, part.abs() > 2.0 * profile.level).copysign(part) } else { -part };
+    }
+
+    /// Other values that decide alike in a share of all parts.
     fn strengthen(&mut self, random: &mut Random) {
-        let (share, bits) = (random.pick(&[1, 20, 100]), self.bits());
-        for (p, b) in (0..PACKETS).flat_map(|p| (0..bits).map(move |b| (p, b))) {
+        let (share, profile, parts) = (random.pick(&[1, 20, 100]), self.profile, self.parts());
+        for (p, b) in (0..PACKETS).flat_map(|p| parts.clone().map(move |b| (p, b))) {
             if random.percent(share) {
-                let value = f32::from_bits(random.pick(&STRENGTHS));
                 let part = self.part(p, b);
-                *part = value.copysign(*part);
+                *part = strength(random, &profile, part.abs() < 2.0 * profile.level).copysign(*part);
             }
         }
     }
 
-    /// The faults that show in the cells or the marks.
-    fn spoil(&mut self, random: &mut Random, p: usize, faults: &[u8]) {
+    /// The faults that show in the cells or the marks. The reason that the packet must have, if it is known.
+    fn spoil(&mut self, random: &mut Random, p: usize, faults: &[u8]) -> Option<u8> {
         if faults.contains(&DESTROYED) {
             self.destroy(random, p);
         }
+        let wrong = if faults.contains(&FEW) { self.turn_few(random, p) } else { Vec::new() };
         if faults.contains(&CODED_BITS) {
             self.turn_parity(random, p);
         }
         if faults.contains(&DOUBTFUL) {
             for _ in 0..random.pick(&[1, 1, 1, 2, 50]) {
                 let b = random.below(self.bits());
-                *self.part(p, b) = f32::from_bits(random.pick(&DOUBTS));
+                *self.part(p, b) = self.doubt(random);
             }
         }
         if faults.contains(&MARKED) {
             self.marks |= 1 << p;
         }
+        match faults {
+            [FEW] => Some(reason_of(self.profile.rate(), &wrong)),
+            _ if faults.contains(&DESTROYED) || faults.contains(&FEW) => None,
+            _ => Some(faults.iter().copied().min().unwrap_or(ACCEPTED)),
+        }
+    }
+
+    /// A part that no bits can be read from. In 16QAM it may also lie on one of the two lines.
+    fn doubt(&self, random: &mut Random) -> f32 {
+        let line = 2.0 * self.profile.level;
+        let of_zero = f32::from_bits(random.pick(&DOUBTS));
+        if is_qam(&self.profile) { random.pick(&[of_zero, line, -line]) } else { of_zero }
+    }
+
+    /// Turns one to three bits, wherever they are. Returns them.
+    fn turn_few(&mut self, random: &mut Random, p: usize) -> Vec<usize> {
+        let count = 1 + random.below(3);
+        let wrong = random.some(count, self.bits());
+        wrong.iter().for_each(|&b| self.turn(random, p, b));
+        wrong
     }
 
     /// Turns bits that aren't among the 994, so that only the comparison with the packet's own coded bits can find it.
     fn turn_parity(&mut self, random: &mut Random, p: usize) {
-        let (n, length) = (self.profile.n(), self.bits());
-        let parity: Vec<usize> = (0..length).filter(|i| i % n != 0 || *i >= n * ENTERING).collect();
-        let count = random.pick(&[1, 1, 1, 2, 10, 900]);
+        let (rate, length) = (self.profile.rate(), self.bits());
+        let mut is_data = vec![false; length];
+        (0..ENTERING).for_each(|i| is_data[rate.place(i)] = true);
+        let parity: Vec<usize> = (0..length).filter(|&i| !is_data[i]).collect();
+        let count = random.pick(&[1, 1, 1, 2, 10, parity.len() * 9 / 10]);
         for i in random.some(count, parity.len()) {
-            let part = self.part(p, plain::interleaved(length, parity[i]));
-            *part = -*part;
+            self.turn(random, p, plain::interleaved(length, parity[i]));
         }
     }
 
-    /// Any bit patterns, any numbers, all bits turned, all bits zero; or just some bits turned, wherever they are.
+    /// Any bit patterns, any numbers, all signs turned, all signs +, all parts of one size; or just some bits turned, wherever they are.
     fn destroy(&mut self, random: &mut Random, p: usize) {
-        let kind = random.below(8);
-        for b in 0..self.bits() {
+        let (kind, level) = (random.below(10), self.profile.level);
+        for b in self.parts() {
             let other = random.float();
             let part = self.part(p, b);
             *part = match kind {
@@ -130,13 +211,13 @@ impl Receiving {
                 1 => other.to_bits() as f32 - 2e9,
                 2 => -*part,
                 3 => part.abs(),
+                4 => level.copysign(*part),
                 _ => *part,
             };
         }
-        let count = if kind < 4 { 0 } else { random.pick(&[1, 1, 2, 3, 10, 100, 1999]) };
+        let count = if kind < 5 { 0 } else { random.pick(&[1, 1, 2, 3, 10, 100, self.bits() - 1]) };
         for b in random.some(count, self.bits()) {
-            let part = self.part(p, b);
-            *part = -*part;
+            self.turn(random, p, b);
         }
     }
 
@@ -177,9 +258,9 @@ impl Receiving {
             ("plain: a reason isn't the known one", !judged || known),
             ("plain: the data sent didn't come back", plain.number != 0 || back),
         ];
-        tally.case(Call::Receive, self.label, library.answer(), plain.answer(), &tests);
+        tally.case(Call::Receive, Given::bytes(&self.bytes), self.label, library.answer(), plain.answer(), &tests);
         if judged {
-            tally.reasons(&plain.reasons);
+            tally.reasons(self.profile.mode, &plain.reasons);
         }
     }
 }
@@ -238,30 +319,159 @@ pub fn any_grid(random: &mut Random, mode: u8, k: u8) -> Receiving {
     receiving
 }
 
+/// A block's grid as sent, nothing else in it, and its data.
+fn clean_grid(random: &mut Random, label: &'static str, mode: u8, k: u8) -> (Vec<u8>, Receiving) {
+    let profile = random_profile(random, mode, k);
+    let (data, block) = codewords(random, &profile);
+    (data, Receiving::sent(random, label, profile, &block, &no_faults()))
+}
+
 fn fault_cases(random: &mut Random, tally: &mut Tally, mode: u8, k: u8) {
-    for _ in 0..600 {
+    for _ in 0..350 {
         any_grid(random, mode, k).compare(tally);
     }
 }
 
-/// Grids as sent, with any marks; and received under a profile whose D, which doesn't matter here, is another.
+/// Grids as sent, with any marks; in modes 0 and 1 received under a profile whose D, which doesn't matter there, is another.
 fn marked_cases(random: &mut Random, tally: &mut Tally, mode: u8, k: u8) {
-    for i in 0..100 {
+    for i in 0..50 {
         let profile = random_profile(random, mode, k);
         let (data, block) = codewords(random, &profile);
         let mut receiving = Receiving::new(random, "marks", profile, &block, &no_faults());
-        receiving.marks = if i < 20 { 0 } else { random.next() as u16 & random.next() as u16 & random.next() as u16 };
+        receiving.marks = if i < 10 { 0 } else { random.next() as u16 & random.next() as u16 & random.next() as u16 };
         (0..PACKETS).filter(|p| receiving.marks >> p & 1 == 1).for_each(|p| receiving.reasons[p] = Some(MARKED));
-        receiving.bytes = written(&Profile { level: random_profile(random, mode, k).level, ..profile });
+        if mode < 2 {
+            receiving.bytes = written(&Profile { level: random_profile(random, mode, k).level, ..profile });
+        }
         receiving.data = Some(data);
         receiving.compare(tally);
+    }
+}
+
+/// Levels to receive a grid of 16QAM with that was sent with another, and what must come of it for every packet, if it is known: the line stays
+/// between D and what is sent for 3D, it goes to either of them, or beyond.
+fn other_levels(random: &mut Random, sent: f32) -> Vec<(Kind, f32, Option<u8>)> {
+    let (low, high) = (sent / 2.0, 3.0 * sent / 2.0);
+    let any = f32::from_bits(low.to_bits() + 1 + random.below((high.to_bits() - low.to_bits() - 1) as usize) as u32);
+    let levels = [
+        (Kind::DecidesAlike, after(low), Some(ACCEPTED)),
+        (Kind::DecidesAlike, any, Some(ACCEPTED)),
+        (Kind::DecidesAlike, before(high), Some(ACCEPTED)),
+        (Kind::InnerOnLine, low, Some(DOUBTFUL)),
+        (Kind::OuterOnLine, high, Some(DOUBTFUL)),
+        (Kind::DecidesOtherwise, before(low), None),
+        (Kind::DecidesOtherwise, after(high), None),
+    ];
+    levels.into_iter().filter(|level| level.1.is_normal() && level.1.to_bits() <= LARGEST).collect()
+}
+
+fn level_cases(random: &mut Random, tally: &mut Tally, mode: u8, k: u8) {
+    for _ in 0..2 {
+        let (data, mut receiving) = clean_grid(random, "another level", mode, k);
+        for (kind, level, reason) in other_levels(random, receiving.profile.level) {
+            receiving.bytes = written(&Profile { level, ..receiving.profile });
+            receiving.reasons = [reason; PACKETS];
+            receiving.data = (reason == Some(ACCEPTED)).then(|| data.clone());
+            receiving.compare(tally);
+            tally.kind(kind);
+        }
+    }
+}
+
+/// Parts on the lines that decide, next to them and elsewhere, with the bits that each decides to; none where it is doubtful. Twice the level isn't
+/// a line in QPSK.
+pub fn line_parts(profile: &Profile) -> Vec<(Kind, f32, Option<Vec<u8>>)> {
+    let (level, line) = (profile.level, 2.0 * profile.level);
+    let signed = |is_inner: u8, is_negative: u8| if is_qam(profile) { vec![is_inner, is_negative] } else { vec![is_negative] };
+    let mut parts = Vec::new();
+    for s in [0, 1] {
+        let (inner, outer) = (Some(signed(1, s)), Some(signed(0, s)));
+        let mut some = vec![
+            (Kind::Zero, 0.0, None),
+            (Kind::NextToZero, f32::from_bits(1), inner.clone()),
+            (Kind::NextToZero, f32::from_bits(0x007F_FFFF), inner.clone()),
+            (Kind::AsSent, level, inner.clone()),
+            (Kind::Infinite, f32::INFINITY, outer.clone()),
+            (Kind::NotANumber, f32::from_bits(0x7FC0_0000), None),
+            (Kind::NotANumber, f32::from_bits(0x7F80_0001), None),
+        ];
+        if is_qam(profile) {
+            some.extend([
+                (Kind::InsideLine, before(line), inner),
+                (Kind::OnLine, line, None),
+                (Kind::OutsideLine, after(line), outer.clone()),
+                (Kind::AsSent, 3.0 * level, outer),
+            ]);
+        }
+        parts.extend(some.into_iter().map(|(kind, part, bits)| (kind, if s == 1 { -part } else { part }, bits)));
+    }
+    parts
+}
+
+/// One of these parts in each packet of a grid as sent: the packet is accepted where the part decides as the one that was sent, and else the bits
+/// that it decides to say why not.
+fn line_cases(random: &mut Random, tally: &mut Tally, mode: u8, k: u8) {
+    for _ in 0..6 {
+        let (_, mut receiving) = clean_grid(random, "parts on the lines", mode, k);
+        let (profile, parts) = (receiving.profile, line_parts(&receiving.profile));
+        let from = random.below(parts.len());
+        for p in 0..PACKETS {
+            let (kind, part, bits) = &parts[(from + p) % parts.len()];
+            let b = profile.part_bits() * random.below(receiving.parts().len());
+            let sent = std::mem::replace(receiving.part(p, b), *part);
+            let (_, _, sent) = parts.iter().find(|(kind, part, _)| matches!(kind, Kind::AsSent) && *part == sent).expect("a part that is sent");
+            let wrong = |bits: &Vec<u8>| (0..bits.len()).filter(|&i| Some(bits[i]) != sent.as_ref().map(|sent| sent[i])).map(|i| b + i).collect();
+            let wrong: Option<Vec<usize>> = bits.as_ref().map(wrong);
+            receiving.reasons[p] = Some(wrong.map_or(DOUBTFUL, |wrong| reason_of(profile.rate(), &wrong)));
+            if is_qam(&profile) {
+                tally.kind(*kind);
+            }
+        }
+        receiving.compare(tally);
+    }
+}
+
+/// A packet's first and last bits and those at the ends of the slots in which it lies, by turns.
+fn end_bits(profile: &Profile, p: usize) -> Vec<usize> {
+    let (length, size) = (profile.rate().length(), profile.slot_bits());
+    let inside = (1..length).filter(|b| (p * length + b) % size == 0);
+    [0, 1, length - 2, length - 1].into_iter().chain(inside.flat_map(|b| [b - 1, b])).collect()
+}
+
+/// A doubtful part or a wrong bit at the ends of every second packet: the others are accepted, also where they share a slot with these.
+fn end_cases(random: &mut Random, tally: &mut Tally, mode: u8) {
+    for (which, is_doubt, turn) in (0..32).map(|n| (n % 2, n / 2 % 2 == 0, n / 4)) {
+        let k = random.pick(&KS);
+        let (_, mut receiving) = clean_grid(random, "faults at a packet's ends", mode, k);
+        let profile = receiving.profile;
+        let mut some = false;
+        for p in (which..PACKETS).step_by(2) {
+            let Some(&b) = end_bits(&profile, p).get(turn) else { continue };
+            some = true;
+            if is_doubt {
+                *receiving.part(p, b) = receiving.doubt(random);
+                receiving.reasons[p] = Some(DOUBTFUL);
+            } else {
+                receiving.turn(random, p, b);
+                receiving.reasons[p] = Some(reason_of(profile.rate(), &[b]));
+            }
+            let meets = |b: usize| (p * profile.rate().length() + b) % profile.slot_bits() != 0;
+            if (b < 2 && meets(0)) || (b + 2 >= profile.rate().length() && meets(profile.rate().length())) {
+                tally.kind(Kind::Meeting);
+            }
+        }
+        if some {
+            receiving.compare(tally);
+        }
     }
 }
 
 /// One byte altered in an otherwise valid packet, every packet in turn: 10, and 9 or 0 with other packets marked.
 fn altered_cases(random: &mut Random, tally: &mut Tally, mode: u8, k: u8) {
     let profile = random_profile(random, mode, k);
-    for (p, marked) in (0..PACKETS).flat_map(|p| [0, profile.r() - 1, profile.r(), profile.r() + 1].map(|n| (p, n))) {
+    let r = profile.r();
+    for (p, counts) in (0..PACKETS).flat_map(|p| [[0, r - 1], [r, r + 1]].map(|counts| (p, counts))) {
+        let marked = random.pick(&counts);
         let (_, mut block) = codewords(random, &profile);
         let any = random.below(PACKET);
         block[p][random.pick(&[0, any, PACKET - 1])] ^= 1 + random.below(255) as u8;
@@ -276,18 +486,18 @@ fn altered_cases(random: &mut Random, tally: &mut Tally, mode: u8, k: u8) {
 fn near_cases(random: &mut Random, tally: &mut Tally, mode: u8, k: u8) {
     let profile = random_profile(random, mode, k);
     let (_, block) = codewords(random, &profile);
+    let receiving = Receiving::new(random, "near lengths", profile, &block, &no_faults());
     let cells = CELLS * profile.symbols();
     for (data, firsts) in near(profile.data_length()).into_iter().flat_map(|d| near(cells).map(|f| (d, f))) {
         for seconds in near(cells) {
-            let receiving = Receiving::new(random, "near lengths", profile, &block, &no_faults());
-            receiving.resize(random, data, firsts, seconds).compare(tally);
+            receiving.clone().resize(random, data, firsts, seconds).compare(tally);
         }
     }
 }
 
 /// Anything wrong at random: profile, lengths, packets.
 fn wrong_cases(random: &mut Random, tally: &mut Tally, mode: u8, k: u8) {
-    for _ in 0..200 {
+    for _ in 0..100 {
         let profile = random_profile(random, mode, k);
         let (_, block) = random_block(random, &profile);
         let faults = random_faults(random, profile.r());
@@ -310,5 +520,10 @@ pub fn run(random: &mut Random, tally: &mut Tally) {
         altered_cases(random, tally, mode, k);
         near_cases(random, tally, mode, k);
         wrong_cases(random, tally, mode, k);
+        line_cases(random, tally, mode, k);
+        if mode >= 2 {
+            level_cases(random, tally, mode, k);
+        }
     }
+    MODES.into_iter().for_each(|mode| end_cases(random, tally, mode));
 }

@@ -1,7 +1,7 @@
 //! The tests of sending: whole grids, single symbols, refusals; and of the outer parity alone.
 
 use crate::check_profile::{damaged, random_profile, written, KS, MODES};
-use crate::check_tools::{Call, Random, Room, Tally};
+use crate::check_tools::{Call, Given, Random, Room, Tally};
 use crate::plain::{Profile, BLOCK, CELLS, PACKET};
 use crate::{library, plain};
 
@@ -45,7 +45,7 @@ impl Sending {
             ("second parts differ", s.same(&own_s)),
             ("a refusal changed lent memory", library.number == 0 || (f.same(&self.firsts) && s.same(&self.seconds))),
         ];
-        tally.case(call, self.label, library, plain, &tests);
+        tally.case(call, Given::bytes(profile), self.label, library, plain, &tests);
     }
 }
 
@@ -59,7 +59,8 @@ pub fn often_right(random: &mut Random, right: usize) -> usize {
     if random.percent(70) {
         return right;
     }
-    let lengths = [0, 1, right - 1, right + 1, 2 * right, right / 2, CELLS, 5 * CELLS, 7 * CELLS, PACKET * 8, PACKET * 14];
+    let symbols = CELLS * random.pick(&[1, 2, 3, 4, 5, 7]);
+    let lengths = [0, 1, right - 1, right + 1, 2 * right, right / 2, symbols, symbols, PACKET * 8, PACKET * 14];
     random.pick(&lengths)
 }
 
@@ -70,11 +71,11 @@ pub fn right_lengths(profile: &Profile, symbol: Option<usize>) -> [usize; 3] {
 
 /// Sends with nothing wrong: grids, and all symbols of one of them.
 fn right_cases(random: &mut Random, tally: &mut Tally, mode: u8, k: u8) {
-    for _ in 0..150 {
+    for _ in 0..100 {
         let profile = random_profile(random, mode, k);
         Sending::new(random, "a right grid", written(&profile), None, right_lengths(&profile, None)).compare(tally);
     }
-    for _ in 0..30 {
+    for _ in 0..20 {
         let profile = random_profile(random, mode, k);
         for symbol in (0..profile.symbols()).map(Some) {
             Sending::new(random, "a right symbol", written(&profile), symbol, right_lengths(&profile, symbol)).compare(tally);
@@ -112,7 +113,7 @@ fn near_cases(random: &mut Random, tally: &mut Tally, mode: u8, k: u8) {
 
 /// Anything wrong at random, several things at once too.
 fn wrong_cases(random: &mut Random, tally: &mut Tally, mode: u8, k: u8) {
-    for _ in 0..300 {
+    for _ in 0..200 {
         let profile = random_profile(random, mode, k);
         let bytes = if random.percent(50) { damaged(random, &profile) } else { written(&profile) };
         let symbol = if random.percent(50) { Some(random.below(10)) } else { None };
@@ -126,7 +127,7 @@ fn parity_case(tally: &mut Tally, label: &str, k: u8, before: &Room<u8>) {
     let library = library::parity(k, block.lent());
     let plain = plain::parity(k, own.lent());
     let kept = library == 0 || block.same(before);
-    tally.case(Call::Parity, label, library, plain, &[("blocks differ", block.same(&own)), ("a refusal changed the block", kept)]);
+    tally.case(Call::Parity, Given::NOTHING, label, library, plain, &[("blocks differ", block.same(&own)), ("a refusal changed the block", kept)]);
 }
 
 fn parity_cases(random: &mut Random, tally: &mut Tally) {

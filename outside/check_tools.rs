@@ -1,7 +1,7 @@
 //! What all outside tests share: the random numbers, lent memory with guards, and the tally of what came.
 
-use crate::plain::Answer;
-use std::collections::BTreeMap;
+use crate::plain::{Answer, Profile};
+use std::collections::{BTreeMap, BTreeSet};
 
 /// A xorshift generator (Marsaglia's 64-bit one with a multiplied output): no crate, and the same numbers in every run.
 pub struct Random(u64);
@@ -81,8 +81,9 @@ impl Bits for f32 {
     }
 }
 
+/// Goes through all of it, since nearly always nothing differs.
 pub fn same<T: Bits>(a: &[T], b: &[T]) -> bool {
-    a.len() == b.len() && a.iter().zip(b).all(|(x, y)| x.bits() == y.bits())
+    a.len() == b.len() && a.iter().zip(b).fold(0, |differing, (x, y)| differing | (x.bits() ^ y.bits())) == 0
 }
 
 /// Lent memory, filled with a pattern; guards before and behind it show a write outside.
@@ -110,6 +111,38 @@ impl<T: Bits> Room<T> {
     }
 }
 
+/// Slots of a block, which are also the seeds that its profile uses, in modes 0 to 4.
+const SLOTS: [usize; 5] = [48, 32, 24, 16, 12];
+
+/// The largest level whose triple is finite: its digits are AAAAAA, and (2^25 - 2) × 2^103 is the largest f32.
+pub const LARGEST: u32 = 0x7EAA_AAAA;
+
+/// What the tally needs of the profile that a call is given: its mode, if it is one of the five, and whether its level is right by itself but
+/// more than modes 2 to 4 can send.
+#[derive(Clone, Copy)]
+pub struct Given {
+    mode: Option<u8>,
+    large: bool,
+}
+
+impl Given {
+    pub const NOTHING: Given = Given { mode: None, large: false };
+
+    /// The level begins at byte 38, and byte 45 is the mode.
+    pub fn bytes(profile: &[u8]) -> Given {
+        let level = profile.get(38..42).map_or(0, |level| u32::from_be_bytes(level.try_into().unwrap()));
+        Given::of(profile.get(45).copied(), level)
+    }
+
+    pub fn value(profile: &Profile) -> Given {
+        Given::of(Some(profile.mode), profile.level.to_bits())
+    }
+
+    fn of(mode: Option<u8>, level: u32) -> Given {
+        Given { mode: mode.filter(|&mode| mode < 5), large: (LARGEST + 1..0x7F80_0000).contains(&level) }
+    }
+}
+
 /// The calls of the library, as lines of the tally.
 #[derive(Clone, Copy)]
 pub enum Call {
@@ -131,11 +164,9 @@ const NUMBERS: [u32; 19] = [0, 1, 2, 3, 5, 6, 7, 8, 9, 10, 16, 17, 18, 22, 40, 4
 const OF_BYTES: &[u32] = &[1, 2, 3, 5, 40, 41, 42, 43, 44];
 const OF_VALUE: &[u32] = &[40, 41, 42, 43, 44];
 
-/// Places that must come wherever a profile can be refused, with their numbers: the first, one between and the last. Those of the seeds are of
-/// both modes: 177 is mode 1's last used one, and 181 is, as a value, its first unused one.
-const PLACES: [(u32, usize); 11] = [
-    (40, 3), (40, 15), (40, 31), (41, 38), (42, 45), (43, 49), (44, 53), (44, 113), (44, 177), (44, 181), (44, 241),
-];
+/// Places that must come wherever a profile can be refused, with their numbers: the first, one between and the last. Of the seeds it is the first;
+/// the others are each mode's own.
+const PLACES: [(u32, usize); 7] = [(40, 3), (40, 15), (40, 31), (41, 38), (42, 45), (43, 49), (44, 53)];
 
 /// Each call's name and the numbers that can arise in it: the profile's, and its own.
 const CALLS: [(&str, &[u32], &[u32]); 9] = [
@@ -152,7 +183,8 @@ const CALLS: [(&str, &[u32], &[u32]); 9] = [
 const REASONS: [usize; 6] = [0, 11, 12, 13, 14, 15];
 const SHOWN: usize = 10;
 
-/// The kinds of comparing, as a line of the tally. The lists are those that are lent where cells differ.
+/// Kinds of cases that must come, as lines of the tally. In comparing, the lists are those that are lent where cells differ. The parts are those of
+/// 16QAM, where the lines are 2D and -2D; a level is the one that a grid is received with, where it was sent with another.
 #[derive(Clone, Copy)]
 pub enum Kind {
     NoneDiffer,
@@ -162,14 +194,51 @@ pub enum Kind {
     TornList,
     ExactList,
     LongerList,
+    Zero,
+    NextToZero,
+    InsideLine,
+    OnLine,
+    OutsideLine,
+    Infinite,
+    NotANumber,
+    AsSent,
+    Meeting,
+    DecidesAlike,
+    InnerOnLine,
+    OuterOnLine,
+    DecidesOtherwise,
 }
-const KINDS: [&str; 7] = ["none differ", "all differ", "no list", "short list", "list torn at its end", "exact list", "longer list"];
+const KINDS: [(&str, &str); 20] = [
+    ("compare", "none differ"),
+    ("compare", "all differ"),
+    ("compare", "no list"),
+    ("compare", "short list"),
+    ("compare", "list torn at its end"),
+    ("compare", "exact list"),
+    ("compare", "longer list"),
+    ("part", "zero"),
+    ("part", "next to zero"),
+    ("part", "inside a line"),
+    ("part", "on a line"),
+    ("part", "outside a line"),
+    ("part", "infinite"),
+    ("part", "NaN"),
+    ("part", "as sent"),
+    ("part", "wrong where two packets meet in a slot"),
+    ("other level", "decides alike"),
+    ("other level", "inner on a line"),
+    ("other level", "outer on a line"),
+    ("other level", "decides otherwise"),
+];
 
 #[derive(Default)]
 pub struct Tally {
     /// How often each number came from each call at each place.
     came: BTreeMap<(usize, u32, usize), u64>,
-    reasons: [u64; 16],
+    /// Which of them came in which mode, and whether with a level that is too large for modes 2 to 4.
+    in_mode: BTreeSet<(usize, u8, u32, usize, bool)>,
+    /// By mode.
+    reasons: [[u64; 16]; 5],
     kinds: [u64; KINDS.len()],
     cases: u64,
     differences: u64,
@@ -177,10 +246,15 @@ pub struct Tally {
 
 impl Tally {
     /// One case: what both say, and what else was compared. `tests` are named by what is wrong where they don't hold.
-    pub fn case(&mut self, call: Call, label: &str, library: impl Into<Answer>, plain: impl Into<Answer>, tests: &[(&str, bool)]) {
+    pub fn case(
+        &mut self, call: Call, given: Given, label: &str, library: impl Into<Answer>, plain: impl Into<Answer>, tests: &[(&str, bool)],
+    ) {
         let (library, plain): (Answer, Answer) = (library.into(), plain.into());
         self.cases += 1;
         *self.came.entry((call as usize, plain.number, plain.place)).or_default() += 1;
+        if let Some(mode) = given.mode {
+            self.in_mode.insert((call as usize, mode, plain.number, plain.place, given.large));
+        }
         let wrong: Vec<&str> = tests.iter().filter(|t| !t.1).map(|t| t.0).collect();
         if library != plain || !wrong.is_empty() {
             let (name, said) = (CALLS[call as usize].0, |answer: Answer| format!("says {} at {}", answer.number, answer.place));
@@ -195,8 +269,8 @@ impl Tally {
         }
     }
 
-    pub fn reasons(&mut self, reasons: &[u8]) {
-        reasons.iter().for_each(|&reason| self.reasons[reason as usize] += 1);
+    pub fn reasons(&mut self, mode: u8, reasons: &[u8]) {
+        reasons.iter().for_each(|&reason| self.reasons[mode as usize][reason as usize] += 1);
     }
 
     pub fn kind(&mut self, kind: Kind) {
@@ -226,32 +300,64 @@ impl Tally {
         strange.map(|(call, number, place)| format!("number {number} at {place} came from {}", CALLS[*call].0)).collect()
     }
 
+    /// What each call must have said at some time, and didn't.
+    fn missing(&self) -> Vec<String> {
+        let mut missing = Vec::new();
+        for (c, (name, of_profile, own)) in CALLS.iter().enumerate() {
+            let numbers = of_profile.iter().chain(*own).filter(|&&n| self.count(c, n) == 0);
+            missing.extend(numbers.map(|n| format!("number {n} never came from {name}")));
+            if of_profile.is_empty() {
+                continue;
+            }
+            let places = PLACES.iter().filter(|(number, place)| !self.came.contains_key(&(c, *number, *place)));
+            missing.extend(places.map(|(number, place)| format!("number {number} at {place} never came from {name}")));
+            missing.extend((0..5).flat_map(|mode| self.missing_in(c, mode)));
+        }
+        missing
+    }
+
+    /// The same by mode: the call's own numbers, a bad seed as the last used and, in a value, as the first and the last unused one, and a level that
+    /// modes 0 and 1 can send, but modes 2 to 4 can't.
+    fn missing_in(&self, c: usize, mode: u8) -> Vec<String> {
+        let (name, of_profile, own) = CALLS[c];
+        let after = 53 + 4 * SLOTS[mode as usize];
+        let unused = if of_profile == OF_VALUE && mode > 0 { vec![after, 241] } else { vec![] };
+        let came = |number: u32, place: usize| [false, true].iter().any(|&large| self.in_mode.contains(&(c, mode, number, place, large)));
+        let due = own.iter().map(|&number| (number, 0)).chain([(44, after - 4)]).chain(unused.into_iter().map(|place| (44, place)));
+        let mut missing: Vec<String> = due.filter(|&(number, place)| !came(number, place))
+            .map(|(number, place)| format!("number {number} at {place} never came from {name} in mode {mode}")).collect();
+        let (number, place) = if mode < 2 { (0, 0) } else { (41, 38) };
+        if !self.in_mode.contains(&(c, mode, number, place, true)) {
+            missing.push(format!("a level above {LARGEST:08x} never gave {number} from {name} in mode {mode}"));
+        }
+        missing
+    }
+
+    fn missing_kinds(&self) -> Vec<String> {
+        let reasons = (0..5).flat_map(|mode| REASONS.map(|reason| (mode, reason))).filter(|&(mode, reason)| self.reasons[mode][reason] == 0);
+        let reasons = reasons.map(|(mode, reason)| format!("reason {reason} never came in mode {mode}"));
+        let kinds = KINDS.iter().zip(self.kinds).filter(|kind| kind.1 == 0);
+        reasons.chain(kinds.map(|((group, kind), _)| format!("{group}: {kind} never came"))).collect()
+    }
+
     /// Prints the counts and the last line. True when nothing differed, everything that can arise has arisen, and nothing else.
     pub fn report(&mut self) -> bool {
         println!("number        {}", NUMBERS.map(|n| format!("{n:>7}")).concat());
         for (c, (name, ..)) in CALLS.iter().enumerate() {
             println!("{name:<14}{}", NUMBERS.map(|n| format!("{:>7}", self.count(c, n))).concat());
         }
-        let reasons = REASONS.map(|reason| format!(" {reason}: {}", self.reasons[reason]));
-        println!("reasons      {}", reasons.join(","));
-        let kinds: Vec<String> = KINDS.iter().zip(self.kinds).map(|(kind, count)| format!(" {kind}: {count}")).collect();
-        println!("compare      {}", kinds.join(","));
-        for (c, (name, of_profile, own)) in CALLS.iter().enumerate() {
-            for &n in of_profile.iter().chain(*own).filter(|&&n| self.count(c, n) == 0).collect::<Vec<_>>() {
-                self.difference(&format!("number {n} never came from {name}"));
-            }
-            let missing = |&(number, place): &(u32, usize)| !of_profile.is_empty() && !self.came.contains_key(&(c, number, place));
-            for (number, place) in PLACES.into_iter().filter(missing).collect::<Vec<_>>() {
-                self.difference(&format!("number {number} at {place} never came from {name}"));
-            }
+        for (mode, counts) in self.reasons.iter().enumerate() {
+            let reasons = REASONS.map(|reason| format!(" {reason}: {}", counts[reason]));
+            println!("reasons in {mode} {}", reasons.join(","));
         }
-        for reason in REASONS.into_iter().filter(|&reason| self.reasons[reason] == 0).collect::<Vec<_>>() {
-            self.difference(&format!("reason {reason} never came"));
+        for group in ["compare", "part", "other level"] {
+            let kinds = KINDS.iter().zip(self.kinds).filter(|kind| kind.0 .0 == group);
+            let kinds: Vec<String> = kinds.map(|((_, kind), count)| format!(" {kind}: {count}")).collect();
+            println!("{group:<13}{}", kinds.join(","));
         }
-        for kind in (0..KINDS.len()).filter(|&kind| self.kinds[kind] == 0).collect::<Vec<_>>() {
-            self.difference(&format!("compare: {} never came", KINDS[kind]));
+        for text in [self.missing(), self.missing_kinds(), self.strangers()].concat() {
+            self.difference(&text);
         }
-        self.strangers().iter().for_each(|text| self.difference(text));
         println!("outside: {} cases, {} differences", self.cases, self.differences);
         self.differences == 0
     }

@@ -1,12 +1,25 @@
-"""An independent sender and receiver, written from the text of document 01 and of document 02's Req 01, 02, 04 and 05 alone (a state's bytes are
-flo.h's) and in another way than the crates: whole lists, integers as polynomials, no tables shared with them. The vectors under outside/ and
-crates/*/stdout that say so come from here.
+"""An independent sender and receiver, written from the text of document 01 and of document 02's Req 01, 02 and 04 to 06 alone, with source document
+000's tables of puncturing and of 16QAM as they are printed (a state's bytes are flo.h's), and in another way than the crates: whole lists, integers as
+polynomials, no tables shared with them. The vectors under outside/ and crates/*/stdout that say so come from here.
 
     python3 outside/flo.py NAME      prints the vectors of that name (the names are at the end of this file)
 """
-import random
 import struct
 import sys
+from fractions import Fraction
+
+# ---- modes, by documents 01 and 02: rate, bits of a point, slots of a block (which are also its seeds), symbols of a grid
+
+MODES = {0: ("1/3", 2, 48, 7), 1: ("1/2", 2, 32, 5), 2: ("1/3", 4, 24, 4), 3: ("1/2", 4, 16, 3), 4: ("2/3", 4, 12, 2)}
+
+def rate_of(mode):
+    return MODES[mode][0]
+
+def is_qam(mode):
+    return MODES[mode][1] == 4
+
+def slots_of(mode):
+    return MODES[mode][2]
 
 # ---- GF(256): carry-less products, reduced by x^8 + x^4 + x^3 + x^2 + 1
 
@@ -92,20 +105,26 @@ def encoder(bits):
         register = [0, register[0], register[1]]
     return y, ends
 
+# Source document 000's tables 3.2.6.20.2.1-1 and -2 without the rows of Y1 and Y'1, which are never sent: for each rate the rows of X, Y0, X' and
+# Y'0. They are read from top to bottom, then from left to right.
+PUNCTURING = {"1/2": "11 10 00 01", "1/3": "11 11 00 11", "2/3": "1111 1000 0000 0001"}
+TAILS = {"1/2": "111000 111000 000111 000111", "1/3": "111000 111000 000111 000111", "2/3": "111000 101000 000111 000010"}
+
+def sent_periods(rows, periods):
+    """The bits of each period that the rows let through; a row is gone through again and again, and the last time as far as there are periods."""
+    rows = rows.split()
+    return [bit for i, four in enumerate(periods) for row, bit in zip(rows, four) if row[i % len(row)] == "1"]
+
 def turbo(bits, rate, second=None):
     if second is None:
         second = [bits[a] for a in addresses(len(bits))]
     y, ends = encoder(bits)
     y2, ends2 = encoder(second)
-    out = []
-    for i, x in enumerate(bits):
-        if rate == 2:
-            out += [x, y[i] if i % 2 == 0 else y2[i]]
-        else:
-            out += [x, y[i], y2[i]]
-    for x, p in ends + ends2:
-        out += [x, p] if rate == 2 else [x, x, p]
-    return out
+    body = sent_periods(PUNCTURING[rate], zip(bits, y, second, y2))
+    tail = sent_periods(TAILS[rate], [(x, p, 0, 0) for x, p in ends] + [(0, 0, x, p) for x, p in ends2])
+    if rate == "1/3":  # X and X' are sent twice
+        tail = [bit for x, p in zip(tail[::2], tail[1::2]) for bit in (x, x, p)]
+    return body + tail
 
 def interleave(bits):
     rows = len(bits) // 4
@@ -113,7 +132,7 @@ def interleave(bits):
     return [columns[c][q] for q in range(rows) for c in range(4)]
 
 def coded_packet(data, mode):
-    return interleave(turbo(packet_bits(data)[:994], 3 if mode == 0 else 2))
+    return interleave(turbo(packet_bits(data)[:994], rate_of(mode)))
 
 # ---- slots, scrambling, cells
 
@@ -146,18 +165,46 @@ def block(data, k):
             extra[i].append(b)
     return packets + extra
 
+# Source document 000's table 3.2.6.20.7.2-1: s3 s2 s1 s0, then m_Q, then m_I, which is the first part.
+QAM_TABLE = """
+0000  3A  3A    0100   A  3A    1100  -A  3A    1000 -3A  3A
+0001  3A   A    0101   A   A    1101  -A   A    1001 -3A   A
+0011  3A  -A    0111   A  -A    1111  -A  -A    1011 -3A  -A
+0010  3A -3A    0110   A -3A    1110  -A -3A    1010 -3A -3A
+"""
+
+def qam_points():
+    words = QAM_TABLE.split()
+    return {tuple(int(s) for s in reversed(bits)): (first, second) for bits, second, first in zip(words[::3], words[1::3], words[2::3])}
+
+def rounded(value):
+    """The f32 nearest to a number, as Python has it."""
+    try:
+        return struct.unpack(">f", struct.pack(">f", value))[0]
+    except OverflowError:
+        return float("inf") if value > 0 else float("-inf")
+
+def points(level, mode):
+    """The parts that each bits of a point give. A product with 3 has at most 26 binary digits, so that Python's is exact before it is rounded."""
+    if not is_qam(mode):
+        return {(s0, s1): (-level if s0 else level, -level if s1 else level) for s0 in (0, 1) for s1 in (0, 1)}
+    sizes = {"A": level, "-A": -level, "3A": rounded(3 * level), "-3A": rounded(-3 * level)}
+    return {bits: (sizes[first], sizes[second]) for bits, (first, second) in qam_points().items()}
+
 def send(profile, data):
     """A grid as a list of symbols, each a list of 4096 (first, second)."""
     masks, level, mode, k, seeds = profile
     bits = [b for p in block(data, k) for b in coded_packet(p, mode)]
-    symbols = 7 if mode == 0 else 5
+    _, width, slots, symbols = MODES[mode]
+    length, point_of = 500 * width, points(level, mode)
+    assert len(bits) == length * slots
     grid = [[(0.0, 0.0)] * 4096 for _ in range(symbols)]
-    for t in range(len(bits) // 1000):
+    for t in range(slots):
         number = 1 + t % 7
-        noise = scrambling(seeds[t], masks[number], 1000)
-        slot = [a ^ b for a, b in zip(bits[1000 * t:1000 * t + 1000], noise)]
+        noise = scrambling(seeds[t], masks[number], length)
+        slot = [a ^ b for a, b in zip(bits[length * t:length * t + length], noise)]
         for i, c in enumerate(point_cells(number)):
-            grid[t // 7][c] = tuple(-level if s else level for s in slot[2 * i:2 * i + 2])
+            grid[t // 7][c] = point_of[tuple(slot[width * i:width * i + width])]
     return grid
 
 def write_profile(profile):
@@ -265,12 +312,16 @@ def outer_lines():
     for k, n in (0, 1952), (7, 1952), (10, 1952), (16, 1952), (255, 1951), (8, 1951), (12, 1951), (12, 1953), (14, 1953):
         yield "refused", k, n, *[restore(k, 0, [1] * n)[0]] * 2, 0
 
+def data_places(rate):
+    """Where the 994 bits stand among the coded ones: X of each period is numbered, and nothing else."""
+    numbers = sent_periods(PUNCTURING[rate], [(i, None, None, None) for i in range(994)])
+    return [at for at, number in enumerate(numbers) if number is not None]
+
 def judged(bits, mode=1):
     """The reason and the bytes of a packet's decided bits: the rule read from the receiver's side."""
-    rate = 3 if mode == 0 else 2
     rows = len(bits) // 4
     straight = [bits[4 * q + c] for c in range(4) for q in range(rows)]
-    x = straight[0:rate * 994:rate]
+    x = [straight[at] for at in data_places(rate_of(mode))]
     data = [int(digits(x[8 * j:8 * j + 8]), 2) for j in range(122)]
     if x[976:992] != packet_bits(data)[976:992]:
         return 13, [0] * 122
@@ -283,18 +334,22 @@ def coded_line(name, mode, number, bits):
 
 def coded_lines():
     for name, data in [("zeros", [0] * 122), ("ones", [255] * 122), ("formula", formula(122))]:
-        for mode in (0, 1):
+        for mode in MODES:
             yield coded_line(name, mode, 0, coded_packet(data, mode))
     yield coded_line("short", 1, 6, [0] * 2000)
     yield coded_line("room", 0, 6, [0] * 2999)
-    yield coded_line("mode", 2, 42, [0] * 2000)
-    reserved = 4 * (2 * 992 % 500) + 2 * 992 // 500
-    for flipped in (2000, 2000), (0, 2000), (4, 2000), (1999, 2000), (reserved, 2000), (0, reserved):
-        bits = coded_packet(formula(122), 1) + [0]
-        for at in flipped:
-            bits[at] ^= 1
-        reason, data = judged(bits[:2000])
-        yield "judged", *flipped, reason, word(data, 8)
+    yield coded_line("mode", 5, 42, [0] * 2000)
+    for mode in 1, 4:
+        sent = coded_packet(formula(122), mode)
+        end = len(sent)
+        column, row = divmod(data_places(rate_of(mode))[992], end // 4)
+        reserved = 4 * row + column
+        for flipped in (end, end), (0, end), (4, end), (end - 1, end), (reserved, end), (0, reserved):
+            bits = sent + [0]
+            for at in flipped:
+                bits[at] ^= 1
+            reason, data = judged(bits[:end], mode)
+            yield "judged", *flipped, reason, word(data, 8)
 
 def slot_lines():
     for seed in 1, 0xFFFFF, 0x12345:
@@ -305,8 +360,9 @@ def slot_lines():
     yield "scrambler doubtful", digits(2 if i % 3 == 2 else i % 3 ^ noise[i] for i in range(12))
 
 def cell_lines():
-    for mode, slots, shown, edged in (0, 48, (0, 1, 5, 6, 7), (0, 6)), (1, 32, (0, 3, 4, 5), (4,)):
-        carried = {(t // 7, c): (t, i) for t in range(slots) for i, c in enumerate(point_cells(1 + t % 7))}
+    for mode, shown, edged in ((0, (0, 1, 5, 6, 7), (0, 6)), (1, (0, 3, 4, 5), (4,)), (2, (0, 2, 3, 4), (3,)), (3, (0, 1, 2, 3), (2,)),
+                               (4, (0, 1, 2), (1,))):
+        carried = {(t // 7, c): (t, i) for t in range(slots_of(mode)) for i, c in enumerate(point_cells(1 + t % 7))}
         for symbol in shown:
             row = [carried.get((symbol, c)) for c in range(4096)]
             yield "cells", mode, symbol, 4096 - row.count(None), word([(p[0] * 500 + p[1]) % 251 + 1 if p else 0 for p in row], 8)
@@ -314,8 +370,15 @@ def cell_lines():
             for c in 48, 49, 2040, 2041, 2048, 2049, 2056, 4041, 4047, 4048, 4049:
                 yield "cell", mode, symbol, c, *carried.get((symbol, c), ["nothing"])
 
-def decision(part):
-    return 0 if part > 0 else 1 if part < 0 else 2
+def decision(part, level=None):
+    """Without a level that of QPSK. In 16QAM the nearest of what is sent, exactly and not rounded, in the order of flo.h's numbers; doubtful are the
+    three parts that lie in the middle of two."""
+    if level is None:
+        return 0 if part > 0 else 1 if part < 0 else 2
+    if part != part or part in (0, 2 * level, -2 * level):
+        return 4
+    part = Fraction(min(max(part, -4 * level), 4 * level))
+    return min(range(4), key=lambda d: abs(part - (3, -3, 1, -1)[d] * Fraction(level)))
 
 def pattern(part):
     """Of a NaN it is the one with only the highest of its digits set."""
@@ -324,13 +387,28 @@ def pattern(part):
 def decision_lines():
     for bits in (0, 0x80000000, 1, 0x80000001, 0x3F800000, 0xBF800000, 0x7F7FFFFF, 0xFF7FFFFF, 0x7F800000, 0xFF800000,
                  0x7FC00000, 0xFFC00001, 0x7F800001, 0xFFFFFFFF):
-        part = struct.unpack(">f", struct.pack(">I", bits))[0]
+        part = of_pattern(bits)
         yield "decide", f"{bits:08x}", decision(part), pattern(part)
     level = struct.unpack(">f", bytes.fromhex("3f3504f3"))[0]
     for s0 in 0, 1:
         for s1 in 0, 1:
-            point = -level if s0 else level, -level if s1 else level
+            point = points(level, 0)[s0, s1]
             yield "point", s0, s1, *map(pattern, point), *map(decision, point)
+    yield from qam_decision_lines(level)
+
+def of_pattern(bits):
+    return struct.unpack(">f", struct.pack(">I", bits))[0]
+
+def qam_decision_lines(level):
+    """At a level between, at the least and at the largest: zeros, infinities, NaNs, what is sent, and both lines, with the parts next to them."""
+    for at in level, of_pattern(0x00800000), of_pattern(0x7EAAAAAA):
+        line, sizes = int(pattern(2 * at), 16), (int(pattern(at), 16), int(pattern(rounded(3 * at)), 16))
+        for bits in (0, 1, line - 1, line, line + 1, *sizes, 0x7F800000, 0x7FC00000, 0x7F800001):
+            for signed in bits, bits + 0x80000000:
+                part = of_pattern(signed)
+                yield "decide two", pattern(at), f"{signed:08x}", decision(part, at), pattern(part)
+    for bits, point in sorted(points(level, 2).items()):
+        yield "point four", *bits, *map(pattern, point), *(decision(part, level) for part in point)
 
 def vectors():
     yield from packet_lines()
@@ -348,8 +426,12 @@ def vectors():
 def field(tag, mode):
     """The number that names the field, how many numbers it has, the bytes of each, and which of them are right."""
     states = range(1, 2 ** 20)
-    return {1: (40, 8, 4, states), 2: (41, 1, 4, range(0x0080_0000, 0x7F80_0000)), 3: (42, 1, 1, (0, 1)), 4: (43, 1, 1, (8, 12, 14)),
-            5: (44, 48 if mode == 0 else 32, 4, states)}[tag]
+    return {1: (40, 8, 4, states), 2: (41, 1, 4, range(0x0080_0000, 0x7F80_0000)), 3: (42, 1, 1, MODES), 4: (43, 1, 1, (8, 12, 14)),
+            5: (44, slots_of(mode), 4, states)}[tag]
+
+def is_sent(level, mode):
+    """Whether the mode can send such a level, given by its bits: 16QAM's larger one must be finite too."""
+    return not is_qam(mode) or rounded(3 * of_pattern(level)) != float("inf")
 
 def read_profile(data):
     """What reading these bytes answers: the number, and where the first number outside its range begins."""
@@ -369,7 +451,13 @@ def read_profile(data):
         for place in range(at + 3, at + 3 + count * size, size):
             if int.from_bytes(data[place:place + size], "big") not in right:
                 return named, place
-        mode = data[at + 3] if tag == 3 else mode
+        if tag == 2:
+            level = int.from_bytes(data[at + 3:at + 7], "big")
+            of_level = at + 3
+        if tag == 3:
+            mode = data[at + 3]
+            if not is_sent(level, mode):
+                return 41, of_level
         at += 3 + count * size
     left = len(data) - at
     return 0 if left == 0 else 1 if left < 3 else 2, 0
@@ -382,9 +470,11 @@ def with_numbers(data, *numbers):
     return data
 
 def faulty_profiles(good):
-    """Numbers outside their range, the first, one between and the last of each field: alone, two of them, and beside faults of headers."""
+    """Numbers outside their range, the first, one between and the last of each field: alone, two of them, and beside faults of headers. The second
+    level is outside it in 16QAM only."""
     middle, last = 53 + (len(good) - 53) // 8 * 4, len(good) - 4
-    bad = [(3, 0), (15, 2 ** 20), (31, 2 ** 32 - 1), (38, 0x7F80_0000), (45, 2), (49, 9), (53, 0), (middle, 2 ** 20), (last, 2 ** 31)]
+    bad = [(3, 0), (15, 2 ** 20), (31, 2 ** 32 - 1), (38, 0x7F80_0000), (45, 5), (38, 0x7EAA_AAAB), (49, 9), (53, 0), (middle, 2 ** 20),
+           (last, 2 ** 31)]
     for i, one in enumerate(bad):
         wrong = with_numbers(good, one)
         yield wrong
@@ -392,11 +482,10 @@ def faulty_profiles(good):
         yield from (wrong[:-1], wrong[:50], wrong + b"\6", b"\0" + wrong[1:], wrong[:2] + b"\0" + wrong[3:], wrong[:50] + b"\6" + wrong[51:])
 
 def good_profile(mode, k):
-    slots = 48 if mode == 0 else 32
-    return write_profile(([(37 * i + 1) % 2 ** 20 for i in range(8)], 1.5, mode, k, [2 ** 20 - 1 - 977 * t for t in range(slots)]))
+    return write_profile(([(37 * i + 1) % 2 ** 20 for i in range(8)], 1.5, mode, k, [2 ** 20 - 1 - 977 * t for t in range(slots_of(mode))]))
 
 def profile_table():
-    for mode, k in (0, 14), (1, 8), (0, 8), (1, 12):
+    for mode, k in (0, 14), (1, 8), (0, 8), (1, 12), (2, 14), (3, 8), (4, 12):
         good = good_profile(mode, k)
         yield good
         starts = [0, 35, 42, 46, 50, len(good)]
@@ -408,19 +497,23 @@ def profile_table():
             for place in range(at, min(len(good), at + 4)):
                 for other in (0, 1, 6, 255):
                     yield good[:place] + bytes([other]) + good[place + 1:]
-        for level in 0, 0x8000_0000, 1, 0x007F_FFFF, 0x0080_0000, 0x7F7F_FFFF, 0x7F80_0000, 0x7FC0_0000, 0xBF80_0000, 0xFFFF_FFFF:
+        for level in (0, 0x8000_0000, 1, 0x007F_FFFF, 0x0080_0000, 0x7EAA_AAA9, 0x7EAA_AAAA, 0x7EAA_AAAB, 0x7EAA_AAAC, 0x7F00_0000, 0x7F7F_FFFF,
+                      0x7F80_0000, 0x7FC0_0000, 0xBF80_0000, 0xFFFF_FFFF):
             yield with_numbers(good, (38, level))
         for at, number in (3, 0), (3, 2 ** 20), (31, 2 ** 20 - 1), (31, 2 ** 32 - 1), (53, 0), (53, 2 ** 20), (len(good) - 4, 0), (len(good) - 4, 2 ** 20):
             yield with_numbers(good, (at, number))
-        for at, number in [(45, n) for n in (0, 1, 2, 255)] + [(49, n) for n in (0, 7, 8, 12, 13, 14, 15, 16)]:
+        for at, number in [(45, n) for n in (0, 1, 2, 3, 4, 5, 255)] + [(49, n) for n in (0, 7, 8, 12, 13, 14, 15, 16)]:
             yield with_numbers(good, (at, number))
         yield from faulty_profiles(good)
-        yield with_numbers(good_profile(1 - mode, k), (45, 2))
+        for other in MODES:
+            if other != mode:
+                yield with_numbers(good_profile(other, k), (45, 5))
+                yield with_numbers(good_profile(other, k), (45, mode))
 
 def seeds_answer(seeds, mode):
     """What writing answers to 48 seeds, where all else is right: those that the mode does not use are to be zero. The place of a seed is where the
     profile ends if it is written with the seeds before it."""
-    used = 48 if mode == 0 else 32
+    used = slots_of(mode)
     wrong = [t for t, seed in enumerate(seeds) if (not 0 < seed < 2 ** 20 if t < used else seed != 0)]
     return (44, len(write_profile(([1] * 8, 1.0, mode, 8, seeds[:wrong[0]])))) if wrong else (0, 0)
 
@@ -443,16 +536,36 @@ def place_lines():
 
 # ---- states of Req 02 by themselves: after the first cells of a grid, the check word of the first 4300 bytes; outside/check_examples.rs has them too
 
-def state(cells):
-    return [len(cells) // 256, len(cells) % 256] + [decision(a) + 3 * decision(b) for a, b in cells] + [0] * (28672 - len(cells))
+def state(cells, level=None):
+    """Of QPSK without a level, of 16QAM with it."""
+    base = 3 if level is None else 5
+    decided = [decision(a, level) + base * decision(b, level) for a, b in cells]
+    return [len(cells) // 256, len(cells) % 256] + decided + [0] * (28672 - len(cells))
+
+def state_cells(mode):
+    profile = [37 * i + 1 for i in range(8)], 1.5, mode, 8, [977 * t + 1 for t in range(slots_of(mode))]
+    return sum(send(profile, formula(976)), [])
 
 def state_lines():
-    profile = [37 * i + 1 for i in range(8)], 1.5, 1, 8, [977 * t + 1 for t in range(32)]
-    cells = sum(send(profile, formula(976)), [])
+    cells = state_cells(1)
     for count in 0, 50, 255, 256, 4200:
         yield "state", count, word(state(cells[:count])[:4300], 8)
+    for mode in 2, 3, 4:
+        cells = state_cells(mode)
+        for count in 0, 50, 255, 256, 4200:
+            yield "state of mode", mode, count, word(state(cells[:count], 1.5)[:4300], 8)
 
-NAMES = {"vectors": vectors, "profiles": profiles, "profiles-stdin": profiles_stdin, "places": place_lines, "state": state_lines}
+# ---- short rows by themselves, what the second encoder reads given with them: the coded bits as a number, the first one highest
+
+ROWS = ("010010", "000100"), ("010100", "111001"), ("110110", "011100"), ("111001", "011100")
+
+def row_lines():
+    for rate in PUNCTURING:
+        for row, second in ROWS:
+            coded = turbo([int(bit) for bit in row], rate, [int(bit) for bit in second])
+            yield "row", rate, row, second, len(coded), f"{int(digits(coded), 2):x}"
+
+NAMES = {"vectors": vectors, "profiles": profiles, "profiles-stdin": profiles_stdin, "places": place_lines, "state": state_lines, "rows": row_lines}
 
 if __name__ == "__main__":
     if len(sys.argv) != 2 or sys.argv[1] not in NAMES:

@@ -1,8 +1,9 @@
-//! An independent sender and receiver, written from the text of document 01 and of document 02's Req 01, 02, 04 and 05 alone (a state's bytes
-//! and what a list of differences holds are flo.h's) and in the ordinary way: log tables, precomputed addresses and places, one bit per byte.
+//! An independent sender and receiver, written from the text of document 01 and of document 02's Req 01, 02 and 04 to 06 alone, with source
+//! document 000's tables for puncturing and 16QAM (a state's bytes and what a list of differences holds are flo.h's) and in the ordinary way:
+//! log tables, precomputed addresses and places, one bit per byte.
 //! The outside tests compare the C library with it, and the benchmark times the two side by side.
 //!
-//! Names are the documents'. `r` is 16 - K, `n` the slots of one packet, `p` a packet, `t` a block slot, `j` a column.
+//! Names are the documents'. `r` is 16 - K, `p` a packet, `t` a block slot, `j` a column.
 
 #[path = "plain_codes.rs"]
 mod codes;
@@ -23,8 +24,8 @@ pub const CELLS: usize = 4096; // cells of a symbol
 pub const PACKET: usize = 122; // data bytes of a packet
 pub const PACKETS: usize = 16;
 pub const BLOCK: usize = PACKET * PACKETS;
-pub const SLOT: usize = 1000; // bits of a slot
-pub const POINTS: usize = SLOT / 2; // points of a slot
+pub const POINTS: usize = 500; // points of a slot
+pub const CODED: usize = 3000; // most coded bits of a packet
 pub const PROFILE: usize = 245; // bytes of the largest profile
 pub const ENTERING: usize = 994; // bits of a packet that enter the turbo code
 
@@ -99,25 +100,43 @@ pub fn point_cell(k: usize, i: usize) -> usize {
     interlace(k, PLACES[i])
 }
 
-/// Writes packet p's slots into those symbols of the grid that are lent.
-pub fn put_packet(profile: &Profile, p: usize, bits: &[u8; ENTERING], symbols: &Range<usize>, firsts: &mut [f32], seconds: &mut [f32]) {
-    let n = profile.n();
-    let mut coded = [0; 3 * SLOT];
-    encode(bits, n, &mut coded[..n * SLOT]);
-    let points = [profile.level, -profile.level];
-    for (t, slot) in (n * p..n * p + n).zip(coded.chunks_exact_mut(SLOT)) {
-        let (symbol, number) = slot_place(t);
-        if !symbols.contains(&symbol) {
-            continue;
-        }
-        scramble(profile.seeds[t], profile.masks[number], slot);
-        let base = CELLS * (symbol - symbols.start);
-        let (firsts, seconds) = (&mut firsts[base..base + CELLS], &mut seconds[base..base + CELLS]);
-        for (i, pair) in slot.chunks_exact(2).enumerate() {
+/// Writes a slot's points, by document 01 or by source document 000's table of 16QAM: there s0 says the size of the first part and s1 its sign,
+/// s2 and s3 those of the second.
+pub fn put_slot(profile: &Profile, number: usize, bits: &[u8], firsts: &mut [f32], seconds: &mut [f32]) {
+    let (inner, outer) = (profile.level, 3.0 * profile.level);
+    if profile.part_bits() == 1 {
+        let parts = [inner, -inner];
+        for (i, pair) in bits.chunks_exact(2).enumerate() {
             let cell = point_cell(number, i);
-            firsts[cell] = points[pair[0] as usize];
-            seconds[cell] = points[pair[1] as usize];
+            firsts[cell] = parts[pair[0] as usize];
+            seconds[cell] = parts[pair[1] as usize];
         }
+    } else {
+        let parts = [[outer, -outer], [inner, -inner]];
+        for (i, s) in bits.chunks_exact(4).enumerate() {
+            let cell = point_cell(number, i);
+            firsts[cell] = parts[s[0] as usize][s[1] as usize];
+            seconds[cell] = parts[s[2] as usize][s[3] as usize];
+        }
+    }
+}
+
+/// Writes the slots of those symbols of the grid that are lent: all packets' bits in a row, cut into slots.
+pub fn put_block(profile: &Profile, packets: &[[u8; ENTERING]; PACKETS], symbols: &Range<usize>, firsts: &mut [f32], seconds: &mut [f32]) {
+    let (rate, length, size) = (profile.rate(), profile.rate().length(), profile.slot_bits());
+    let slots = 7 * symbols.start..profile.slots().min(7 * symbols.end);
+    let mut row = [0; PACKETS * CODED];
+    for (p, coded) in row.chunks_exact_mut(length).take(PACKETS).enumerate() {
+        if length * (p + 1) > size * slots.start && length * p < size * slots.end {
+            encode(&packets[p], rate, coded);
+        }
+    }
+    for t in slots {
+        let (symbol, number) = slot_place(t);
+        let bits = &mut row[size * t..size * (t + 1)];
+        scramble(profile.seeds[t], profile.masks[number], bits);
+        let base = CELLS * (symbol - symbols.start);
+        put_slot(profile, number, bits, &mut firsts[base..base + CELLS], &mut seconds[base..base + CELLS]);
     }
 }
 
@@ -134,12 +153,8 @@ fn send_range(profile: &Profile, data: &[u8], symbols: Range<usize>, firsts: &mu
     let block = block_of(profile.k, data);
     firsts.fill(0.0);
     seconds.fill(0.0);
-    for (p, packet) in block.iter().enumerate() {
-        let (from, to) = (slot_place(p * profile.n()).0, slot_place((p + 1) * profile.n() - 1).0);
-        if from < symbols.end && to >= symbols.start {
-            put_packet(profile, p, &packet_bits(packet, check_word(packet), 0), &symbols, firsts, seconds);
-        }
-    }
+    let packets = block.map(|packet| packet_bits(&packet, check_word(&packet), 0));
+    put_block(profile, &packets, &symbols, firsts, seconds);
 }
 
 /// The refusals that all calls on cells share, in their order; `lengths` are the two lists' and the right one.
@@ -200,36 +215,65 @@ impl From<Answer> for Received {
     }
 }
 
-/// Decides and unscrambles the bits of block slot t; false when one of them is doubtful.
-fn take_slot(profile: &Profile, t: usize, firsts: &[f32], seconds: &[f32], bits: &mut [u8]) -> bool {
-    let (symbol, number) = slot_place(t);
-    let base = CELLS * symbol;
-    let (firsts, seconds) = (&firsts[base..base + CELLS], &seconds[base..base + CELLS]);
+/// Decides points of slot number k, beginning with point `first`, as many as the bits have; false when a part is doubtful. No branches, since
+/// signs and sizes can't be predicted.
+fn decide(profile: &Profile, k: usize, first: usize, firsts: &[f32], seconds: &[f32], bits: &mut [u8]) -> bool {
     let mut certain = true;
-    for (i, pair) in bits.chunks_exact_mut(2).enumerate() {
-        let cell = point_cell(number, i);
-        let (a, b) = (firsts[cell], seconds[cell]);
-        // No branches, since signs can't be predicted.
-        certain &= ((a > 0.0) | (a < 0.0)) & ((b > 0.0) | (b < 0.0));
-        (pair[0], pair[1]) = ((a < 0.0) as u8, (b < 0.0) as u8);
+    if profile.part_bits() == 1 {
+        for (i, pair) in bits.chunks_exact_mut(2).enumerate() {
+            let cell = point_cell(k, first + i);
+            let (a, b) = (firsts[cell], seconds[cell]);
+            certain &= ((a > 0.0) | (a < 0.0)) & ((b > 0.0) | (b < 0.0));
+            (pair[0], pair[1]) = ((a < 0.0) as u8, (b < 0.0) as u8);
+        }
+    } else {
+        let line = 2.0 * profile.level;
+        for (i, s) in bits.chunks_exact_mut(4).enumerate() {
+            let cell = point_cell(k, first + i);
+            for (part, s) in [firsts[cell], seconds[cell]].into_iter().zip(s.chunks_exact_mut(2)) {
+                let size = part.abs();
+                certain &= (size > 0.0) & ((size < line) | (size > line));
+                (s[0], s[1]) = ((size < line) as u8, (part < 0.0) as u8);
+            }
+        }
     }
-    scramble(profile.seeds[t], profile.masks[number], bits);
     certain
 }
 
-/// Judges packet p, which isn't marked: its reason, and the 122 bytes that were decided.
-fn judge(profile: &Profile, p: usize, firsts: &[f32], seconds: &[f32]) -> (u8, [u8; PACKET]) {
-    let (n, length) = (profile.n(), profile.n() * SLOT);
-    let (mut came, mut own) = ([0; 3 * SLOT], [0; 3 * SLOT]);
-    let mut data = [0; PACKET];
-    for (t, slot) in (n * p..n * p + n).zip(came.chunks_exact_mut(SLOT)) {
-        if !take_slot(profile, t, firsts, seconds, slot) {
-            return (DOUBTFUL, data);
+/// The block's bits, decided and unscrambled, packet after packet, and bit p set where packet p has a doubtful part. Of marked packets nothing is
+/// decided.
+fn take_block(profile: &Profile, marks: u16, firsts: &[f32], seconds: &[f32]) -> ([u8; PACKETS * CODED], u16) {
+    let (length, size) = (profile.rate().length(), profile.slot_bits());
+    let (mut row, mut doubtful) = ([0; PACKETS * CODED], 0);
+    for (t, bits) in row[..PACKETS * length].chunks_exact_mut(size).enumerate() {
+        let (symbol, number) = slot_place(t);
+        let base = CELLS * symbol;
+        let (firsts, seconds) = (&firsts[base..base + CELLS], &seconds[base..base + CELLS]);
+        let (mut from, mut some) = (0, false);
+        while from < size {
+            let p = (size * t + from) / length;
+            let to = size.min(length * (p + 1) - size * t);
+            if marks >> p & 1 == 0 {
+                some = true;
+                let certain = decide(profile, number, from * POINTS / size, firsts, seconds, &mut bits[from..to]);
+                doubtful |= (!certain as u16) << p;
+            }
+            from = to;
+        }
+        if some {
+            scramble(profile.seeds[t], profile.masks[number], bits);
         }
     }
+    (row, doubtful)
+}
+
+/// Judges a packet's decided bits, none of which is doubtful: its reason, and the 122 bytes.
+fn judge(rate: Rate, came: &[u8]) -> (u8, [u8; PACKET]) {
+    let mut own = [0; CODED];
+    let mut data = [0; PACKET];
     let mut bits = [0; ENTERING];
     for (i, bit) in bits.iter_mut().enumerate() {
-        *bit = came[interleaved(length, n * i)];
+        *bit = came[interleaved(rate.length(), rate.place(i))];
     }
     for (byte, eight) in data.iter_mut().zip(bits.chunks_exact(8)) {
         *byte = number_of(eight) as u8;
@@ -240,8 +284,8 @@ fn judge(profile: &Profile, p: usize, firsts: &[f32], seconds: &[f32]) -> (u8, [
     if bits[992..] != [0, 0] {
         return (RESERVED, data);
     }
-    encode(&bits, n, &mut own[..length]);
-    (if came == own { ACCEPTED } else { CODED_BITS }, data)
+    encode(&bits, rate, &mut own[..rate.length()]);
+    (if came == &own[..rate.length()] { ACCEPTED } else { CODED_BITS }, data)
 }
 
 pub fn receive(profile: &Profile, marks: u16, firsts: &[f32], seconds: &[f32], data: &mut [u8]) -> Received {
@@ -251,8 +295,13 @@ pub fn receive(profile: &Profile, marks: u16, firsts: &[f32], seconds: &[f32], d
         return answer;
     }
     let mut block = [[0; PACKET]; PACKETS];
-    for p in 0..PACKETS {
-        let (reason, packet) = if marks >> p & 1 == 1 { (MARKED, [0; PACKET]) } else { judge(profile, p, firsts, seconds) };
+    let (row, doubtful) = take_block(profile, marks, firsts, seconds);
+    for (p, came) in row.chunks_exact(profile.rate().length()).take(PACKETS).enumerate() {
+        let (reason, packet) = match (marks >> p & 1, doubtful >> p & 1) {
+            (1, _) => (MARKED, [0; PACKET]),
+            (_, 1) => (DOUBTFUL, [0; PACKET]),
+            _ => judge(profile.rate(), came),
+        };
         answer.reasons[p] = reason;
         answer.lost |= ((reason != ACCEPTED) as u16) << p;
         block[p] = packet;

@@ -1,6 +1,7 @@
-//! Part of plain.rs: field, outer code, check word, turbo code and bit interleaver, by document 01's text alone.
+//! Part of plain.rs: field, outer code, check word, turbo code and bit interleaver, by document 01's text and, for rate 2/3, source document 000's
+//! tables of puncturing.
 
-use super::{BAD_K, BLOCK, DATA_LENGTH, DONE, ENTERING, PACKET, PACKETS, SLOT};
+use super::{BAD_K, BLOCK, CODED, DATA_LENGTH, DONE, ENTERING, PACKET, PACKETS};
 
 // ---- GF(256) by logarithms
 
@@ -229,24 +230,90 @@ impl Encoder {
     }
 }
 
-/// The turbo code's n × 1000 bits in the order of its data output.
-fn turbo(bits: &[u8; ENTERING], n: usize, coded: &mut [u8]) {
-    let (mut first, mut second) = (Encoder::default(), Encoder::default());
-    let (body, ends) = coded.split_at_mut(n * ENTERING);
-    for (i, out) in body.chunks_exact_mut(n).enumerate() {
-        let y = first.step(bits[i]);
-        let y2 = second.step(bits[ADDRESSES[i] as usize]);
-        out[0] = bits[i];
-        if n == 3 {
-            (out[1], out[2]) = (y, y2);
-        } else {
-            out[1] = if i % 2 == 0 { y } else { y2 };
+#[derive(Clone, Copy, PartialEq, Debug)]
+pub enum Rate {
+    Third,
+    Half,
+    TwoThirds,
+}
+
+impl Rate {
+    /// Coded bits of a packet.
+    pub fn length(self) -> usize {
+        match self {
+            Rate::Third => 3000,
+            Rate::Half => 2000,
+            Rate::TwoThirds => 1500,
         }
     }
-    for (i, out) in ends.chunks_exact_mut(n).enumerate() {
-        let (x, y) = if i < 3 { first.end() } else { second.end() };
-        out[..n - 1].fill(x);
-        out[n - 1] = y;
+
+    /// Coded bits before the endings.
+    fn body(self) -> usize {
+        match self {
+            Rate::Third => 3 * ENTERING,
+            Rate::Half => 2 * ENTERING,
+            Rate::TwoThirds => 6 * (ENTERING / 4) + 3,
+        }
+    }
+
+    /// Where bit i of the 994 stands among the coded bits.
+    pub fn place(self, i: usize) -> usize {
+        match self {
+            Rate::Third => 3 * i,
+            Rate::Half => 2 * i,
+            Rate::TwoThirds => 6 * (i / 4) + [0, 2, 3, 4][i % 4],
+        }
+    }
+}
+
+/// Both encoders and the bits that they read: each step gives X, Y0 and Y'0 of the next bit.
+struct Turbo<'a> {
+    bits: &'a [u8; ENTERING],
+    i: usize,
+    first: Encoder,
+    second: Encoder,
+}
+
+impl Turbo<'_> {
+    fn step(&mut self) -> [u8; 3] {
+        let i = self.i;
+        self.i += 1;
+        [self.bits[i], self.first.step(self.bits[i]), self.second.step(self.bits[ADDRESSES[i] as usize])]
+    }
+
+    /// Four bits in: X Y0, X, X, X Y'0. Where fewer come, the pattern breaks off.
+    fn two_thirds(&mut self, body: &mut [u8]) {
+        for out in body.chunks_mut(6) {
+            [out[0], out[1], _] = self.step();
+            [out[2], _, _] = self.step();
+            if let [_, _, _, third, fourth, y2] = out {
+                [*third, _, _] = self.step();
+                [*fourth, _, *y2] = self.step();
+            }
+        }
+    }
+}
+
+/// The turbo code's bits in the order of its data output.
+fn turbo(bits: &[u8; ENTERING], rate: Rate, coded: &mut [u8]) {
+    let mut turbo = Turbo { bits, i: 0, first: Encoder::default(), second: Encoder::default() };
+    let (body, ends) = coded.split_at_mut(rate.body());
+    match rate {
+        Rate::Third => body.chunks_exact_mut(3).for_each(|out| out.copy_from_slice(&turbo.step())),
+        Rate::Half => {
+            for out in body.chunks_exact_mut(4) {
+                [out[0], out[1], _] = turbo.step();
+                [out[2], _, out[3]] = turbo.step();
+            }
+        }
+        Rate::TwoThirds => turbo.two_thirds(body),
+    }
+    let [(x, y), (x1, y1), (x2, y2)] = [(); 3].map(|_| turbo.first.end());
+    let [(v, w), (v1, w1), (v2, w2)] = [(); 3].map(|_| turbo.second.end());
+    match rate {
+        Rate::Third => ends.copy_from_slice(&[x, x, y, x1, x1, y1, x2, x2, y2, v, v, w, v1, v1, w1, v2, v2, w2]),
+        Rate::Half => ends.copy_from_slice(&[x, y, x1, y1, x2, y2, v, w, v1, w1, v2, w2]),
+        Rate::TwoThirds => ends.copy_from_slice(&[x, y, x1, x2, y2, v, v1, w1, v2]),
     }
 }
 
@@ -257,10 +324,10 @@ pub fn interleaved(length: usize, i: usize) -> usize {
 }
 
 /// The packet as it is cut into slots, before scrambling.
-pub fn encode(bits: &[u8; ENTERING], n: usize, out: &mut [u8]) {
-    let mut coded = [0; 3 * SLOT];
-    turbo(bits, n, &mut coded[..n * SLOT]);
-    let rows = n * SLOT / 4;
+pub fn encode(bits: &[u8; ENTERING], rate: Rate, out: &mut [u8]) {
+    let mut coded = [0; CODED];
+    turbo(bits, rate, &mut coded[..rate.length()]);
+    let rows = rate.length() / 4;
     for (q, row) in out.chunks_exact_mut(4).enumerate() {
         for (c, bit) in row.iter_mut().enumerate() {
             *bit = coded[rows * c + q];

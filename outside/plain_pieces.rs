@@ -1,4 +1,4 @@
-//! Part of plain.rs: a grid whose cells come in pieces, by document 02's Req 02 and by what flo.h says of the state's bytes.
+//! Part of plain.rs: a grid whose cells come in pieces, by document 02's Req 02 and 06 and by what flo.h says of the state's bytes.
 //!
 //! Nothing clever: the cells that have come are kept as they came, and when the last is there they are received as a whole grid. A state
 //! from elsewhere is good exactly when some cells leave it; its own bytes tell which ones these would have to be.
@@ -16,13 +16,37 @@ pub struct Came {
     state: Vec<u8>,
 }
 
-fn decision(part: f32) -> u8 {
+/// A part that decides to each of the numbers that a decision can have in the profile's mode.
+fn parts(profile: &Profile) -> Vec<f32> {
+    let level = profile.level;
+    if profile.part_bits() == 1 { vec![1.0, -1.0, 0.0] } else { vec![3.0 * level, -3.0 * level, level, -level, 0.0] }
+}
+
+fn decision(profile: &Profile, part: f32) -> u8 {
+    if profile.part_bits() == 1 { qpsk_decision(part) } else { qam_decision(part, 2.0 * profile.level) }
+}
+
+fn qpsk_decision(part: f32) -> u8 {
     if part > 0.0 {
         0
     } else if part < 0.0 {
         1
     } else {
         2
+    }
+}
+
+fn qam_decision(part: f32, line: f32) -> u8 {
+    if part > line {
+        0
+    } else if part < -line {
+        1
+    } else if part > 0.0 && part < line {
+        2
+    } else if part < 0.0 && part > -line {
+        3
+    } else {
+        4
     }
 }
 
@@ -47,8 +71,9 @@ impl Came {
         if self.cells() + firsts.len() > CELLS * profile.symbols() {
             return TOO_MANY_CELLS;
         }
+        let base = parts(profile).len() as u8;
         for (&first, &second) in firsts.iter().zip(seconds) {
-            self.state[2 + self.firsts.len()] = decision(first) + 3 * decision(second);
+            self.state[2 + self.firsts.len()] = decision(profile, first) + base * decision(profile, second);
             self.firsts.push(first);
             self.seconds.push(second);
         }
@@ -69,9 +94,10 @@ impl Came {
     pub fn told_by(profile: &Profile, state: &[u8]) -> Option<Came> {
         let [high, low, cells @ ..] = state else { return None };
         let cells = cells.get(..u16::from_be_bytes([*high, *low]) as usize)?;
-        let part = |decision: u8| [1.0, -1.0, 0.0][decision as usize % 3];
-        let firsts: Vec<f32> = cells.iter().map(|byte| part(*byte)).collect();
-        let seconds: Vec<f32> = cells.iter().map(|byte| part(byte / 3)).collect();
+        let parts = parts(profile);
+        let part = |decision: usize| parts[decision % parts.len()];
+        let firsts: Vec<f32> = cells.iter().map(|&byte| part(byte as usize)).collect();
+        let seconds: Vec<f32> = cells.iter().map(|&byte| part(byte as usize / parts.len())).collect();
         let mut came = Came::nothing();
         (came.feed(profile, &firsts, &seconds) == DONE && came.state == state).then_some(came)
     }

@@ -1,8 +1,9 @@
-//! Part of plain.rs: the profile as bytes and as a value, by the text of document 01 and of document 02's Req 04 alone.
+//! Part of plain.rs: the profile as bytes and as a value, by the text of document 01 and of document 02's Req 04 and 06 alone.
 //!
 //! A place is found in two ways that share nothing: reading knows how many bytes it has walked over, and a value's numbers are counted off.
 
-use super::{BAD_K, BAD_LEVEL, BAD_MASK, BAD_MODE, BAD_SEED, DONE, ENDS_INSIDE, FIELD_DUE, OTHER_TAG, PACKET, PACKETS, PROFILE, WRONG_LENGTH};
+use super::{Rate, BAD_K, BAD_LEVEL, BAD_MASK, BAD_MODE, BAD_SEED, DONE, ENDS_INSIDE, FIELD_DUE, OTHER_TAG, WRONG_LENGTH};
+use super::{PACKET, PACKETS, POINTS, PROFILE};
 
 /// What a call says: its number, and at 40 to 44 the byte of the profile where the faulty number begins. Every other number has place 0.
 #[derive(Clone, Copy, PartialEq, Debug)]
@@ -30,17 +31,30 @@ pub struct Profile {
 impl Profile {
     pub const ZERO: Profile = Profile { masks: [0; 8], level: 0.0, mode: 0, k: 0, seeds: [0; 48] };
 
-    /// Slots of a packet, which is also the coded bits per bit of the turbo code.
-    pub fn n(&self) -> usize {
-        if self.mode == 0 { 3 } else { 2 }
+    pub fn rate(&self) -> Rate {
+        match self.mode {
+            0 | 2 => Rate::Third,
+            1 | 3 => Rate::Half,
+            _ => Rate::TwoThirds,
+        }
+    }
+
+    /// Bits that a part carries: one in QPSK, two in 16QAM.
+    pub fn part_bits(&self) -> usize {
+        if self.mode < 2 { 1 } else { 2 }
+    }
+
+    pub fn slot_bits(&self) -> usize {
+        2 * POINTS * self.part_bits()
+    }
+
+    /// Slots of a block, without gaps between the packets.
+    pub fn slots(&self) -> usize {
+        PACKETS * self.rate().length() / self.slot_bits()
     }
 
     pub fn symbols(&self) -> usize {
-        if self.mode == 0 { 7 } else { 5 }
-    }
-
-    pub fn slots(&self) -> usize {
-        PACKETS * self.n()
+        self.slots().div_ceil(7)
     }
 
     pub fn r(&self) -> usize {
@@ -52,18 +66,23 @@ impl Profile {
     }
 
     /// The first number outside its range, in the order of the tags, and where it would begin if the profile were written out with all its
-    /// 48 seeds; 0 when all are right.
+    /// 48 seeds; 0 when all are right. The mode's turn is also that of a level which the mode can't send.
     pub fn fault(&self) -> Answer {
         let seed = |(t, &seed): (usize, &u32)| (BAD_SEED, 4, if t < self.slots() { is_state(seed) } else { seed == 0 });
         let between = [(BAD_LEVEL, 4, is_level(self.level)), (BAD_MODE, 1, is_mode(self.mode)), (BAD_K, 1, is_k(self.k))];
         let masks = self.masks.iter().map(|&mask| (BAD_MASK, 4, is_state(mask)));
-        let (mut field, mut place) = (0, 0);
+        let (mut field, mut place, mut of_level) = (0, 0, 0);
         for (number, size, good) in masks.chain(between).chain(self.seeds.iter().enumerate().map(seed)) {
             if number != field {
                 (field, place) = (number, place + 3); // tag and length stand before a field's first number
             }
             if !good {
                 return Answer { number, place };
+            }
+            match number {
+                BAD_LEVEL => of_level = place,
+                BAD_MODE if !is_sent(self.level, self.mode) => return Answer { number: BAD_LEVEL, place: of_level },
+                _ => (),
             }
             place += size;
         }
@@ -81,7 +100,12 @@ fn is_level(level: f32) -> bool {
 }
 
 fn is_mode(mode: u8) -> bool {
-    mode < 2
+    mode < 5
+}
+
+/// 16QAM sends three times the level too, and that must be finite.
+fn is_sent(level: f32, mode: u8) -> bool {
+    mode < 2 || (3.0 * level).is_finite()
 }
 
 fn is_k(k: u8) -> bool {
@@ -101,12 +125,13 @@ pub fn read_fields(bytes: &[u8]) -> Result<Profile, Answer> {
     let (mut profile, mut rest) = (Profile::ZERO, bytes);
     let mut field = |tag, length| take_field(&mut rest, tag, length).map(|value| (bytes.len() - rest.len() - length, value));
     read_states(field(1, 32)?, &mut profile.masks, BAD_MASK)?;
-    let (place, level) = field(2, 4)?;
+    let (of_level, level) = field(2, 4)?;
     profile.level = f32::from_bits(u32::from_be_bytes(level.try_into().unwrap()));
-    demand(is_level(profile.level), BAD_LEVEL, place)?;
+    demand(is_level(profile.level), BAD_LEVEL, of_level)?;
     let (place, mode) = field(3, 1)?;
     profile.mode = mode[0];
     demand(is_mode(profile.mode), BAD_MODE, place)?;
+    demand(is_sent(profile.level, profile.mode), BAD_LEVEL, of_level)?;
     let (place, k) = field(4, 1)?;
     profile.k = k[0];
     demand(is_k(profile.k), BAD_K, place)?;

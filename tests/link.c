@@ -11,7 +11,7 @@
 #include <string.h>
 #include <sys/mman.h>
 
-enum { THREADS = 4, TURNS = 40, CELLS = FLO_MOST_SYMBOLS * FLO_SYMBOL_CELLS, PAINT = 0xA5, WRONG_PLACE = 1000 };
+enum { MODES = 5, THREADS = 5, TURNS = 40, CELLS = FLO_MOST_SYMBOLS * FLO_SYMBOL_CELLS, PAINT = 0xA5, WRONG_PLACE = 1000 };
 
 static int passed, failed;
 
@@ -23,6 +23,11 @@ static void test(const char *what, int is_right) {
         printf("failed: %s\n", what);
     }
 }
+
+/* Of each mode: the bits of a packet, the bits that a part carries, the slots of a block. */
+static const struct figures {
+    unsigned packet_bits, part_bits, slots;
+} figures[MODES] = {{3000, 1, 48}, {2000, 1, 32}, {3000, 2, 24}, {2000, 2, 16}, {1500, 2, 12}};
 
 /* ---- one block: what goes into it and all that comes out of it */
 
@@ -60,7 +65,7 @@ static struct value good_value(const struct block *b) {
     struct value v;
     unsigned i;
     for (i = 0; i < FLO_MASKS; i++) v.masks[i] = i * 130003 % 1048575 + 1;
-    for (i = 0; i < FLO_SEEDS; i++) v.seeds[i] = b->mode == 0 || i < 32 ? i * 21001 % 1048575 + 1 : 0;
+    for (i = 0; i < FLO_SEEDS; i++) v.seeds[i] = i < figures[b->mode].slots ? i * 21001 % 1048575 + 1 : 0;
     v.level = 0.5f;
     v.mode = b->mode;
     v.k = b->k;
@@ -160,27 +165,38 @@ static unsigned place_of(unsigned point) {
     return 0;
 }
 
-/* The part that carries a bit of packet p as it goes out (after the bit interleaver): point i of a slot is a cell, bit 2i its first part. */
+/* The part that carries a bit of packet p as it goes out (after the bit interleaver). The packets follow one another through the slots; a slot has
+   500 points, each a cell, and the first half of a point's bits is its first part's. */
 static float *part_of(struct block *b, unsigned p, unsigned bit) {
-    unsigned slot = (b->mode == 0 ? 3 : 2) * p + bit / 1000, place = place_of(bit % 1000 / 2);
-    unsigned cell = slot / 7 * FLO_SYMBOL_CELLS + 49 + slot % 7 + 8 * place;
-    return bit % 2 == 0 ? &b->firsts[cell] : &b->seconds[cell];
+    const unsigned width = figures[b->mode].part_bits, size = 1000 * width, at = figures[b->mode].packet_bits * p + bit;
+    const unsigned slot = at / size, place = place_of(at % size / (2 * width));
+    const unsigned cell = slot / 7 * FLO_SYMBOL_CELLS + 49 + slot % 7 + 8 * place;
+    return at / width % 2 == 0 ? &b->firsts[cell] : &b->seconds[cell];
 }
 
-/* The same for a coded bit, before the bit interleaver. */
-static float *part_of_coded(struct block *b, unsigned p, unsigned coded) {
-    unsigned rows = b->mode == 0 ? 750 : 500;
-    return part_of(b, p, 4 * (coded % rows) + coded / rows);
+/* Turns a bit over in a grid as sent: the part's sign, or with the first of two bits its size, which is 0.5 or 1.5. */
+static void turn_over(struct block *b, unsigned p, unsigned bit) {
+    float *part = part_of(b, p, bit);
+    if (figures[b->mode].part_bits == 1 || bit % 2 == 1) *part = -*part;
+    else if (*part == 1.5f || *part == -1.5f) *part /= 3.0f;
+    else *part *= 3.0f;
 }
 
-static void turn_over(float *part) {
-    *part = -*part;
+/* The bit that goes out for a coded bit, before the bit interleaver. */
+static unsigned outgoing(const struct block *b, unsigned coded) {
+    const unsigned rows = figures[b->mode].packet_bits / 4;
+    return 4 * (coded % rows) + coded / rows;
+}
+
+/* The coded bit that is data bit i, where i is a multiple of 4: each pattern has four data bits or fewer. The one after it is a parity bit. */
+static unsigned coded_of(const struct block *b, unsigned i) {
+    return figures[b->mode].packet_bits * i / 1000;
 }
 
 /* Packet p of one grid in the place of another's. */
 static void copy_packet(struct block *to, struct block *from, unsigned p) {
-    unsigned bit, bits = to->mode == 0 ? 3000 : 2000;
-    for (bit = 0; bit < bits; bit++) *part_of(to, p, bit) = *part_of(from, p, bit);
+    unsigned bit;
+    for (bit = 0; bit < figures[to->mode].packet_bits; bit++) *part_of(to, p, bit) = *part_of(from, p, bit);
 }
 
 /* ---- the tests */
@@ -193,7 +209,7 @@ static void test_round_trip(int mode, int k) {
     size_t symbol;
     int same = 1;
     begin(&one, mode, k, 0);
-    test("a profile's length", one.profile_length == (mode == 0 ? (size_t)FLO_MOST_PROFILE : 181));
+    test("a profile's length", one.profile_length == 53 + 4 * (size_t)figures[mode].slots);
     test("a block is sent", send_block(&one) == FLO_DONE);
     for (symbol = 0; symbol < (size_t)FLO_SYMBOLS(mode); symbol++) {
         same = same && send_symbol(&one, symbol, firsts, seconds) == FLO_DONE;
@@ -208,17 +224,16 @@ static void test_round_trip(int mode, int k) {
 }
 
 static void test_damage(int mode, int k) {
-    const unsigned x = mode == 0 ? 3 : 2; /* coded bit x * i is data bit i, and the one after it a parity bit */
     begin(&one, mode, k, 1);
     send_block(&one);
     *part_of(&one, 0, 8) = 0.0f;
-    turn_over(part_of_coded(&one, 15, x * 992));
+    turn_over(&one, 15, outgoing(&one, coded_of(&one, 992)));
     test("two packets are damaged, and found", receive(&one, 0) == FLO_DONE && one.lost == 0x8001 && came_back(&one));
     test("a doubtful bit, a reserved bit", one.reasons[0] == FLO_DOUBTFUL && one.reasons[15] == FLO_RESERVED_BITS && one.reasons[7] == FLO_ACCEPTED);
 
     send_block(&one);
-    turn_over(part_of_coded(&one, 5, x * 100));
-    turn_over(part_of_coded(&one, 6, x * 100 + 1));
+    turn_over(&one, 5, outgoing(&one, coded_of(&one, 100)));
+    turn_over(&one, 6, outgoing(&one, coded_of(&one, 100) + 1));
     test("two packets are damaged, and found", receive(&one, 0) == FLO_DONE && one.lost == 0x0060 && came_back(&one));
     test("a data bit, a parity bit", one.reasons[5] == FLO_CHECK_WORD && one.reasons[6] == FLO_CODED_BITS);
 
@@ -234,6 +249,88 @@ static void test_damage(int mode, int k) {
     test("a good packet of another block", receive(&one, 0) == FLO_NO_CODEWORD && no_answer(&one));
     test("the data room keeps what it held", is_painted(one.received, sizeof one.received));
     test("it is lost by a mark", receive(&one, 8) == FLO_DONE && came_back(&one) && one.lost == 8 && one.reasons[3] == FLO_MARKED);
+}
+
+/* The scrambling sequence's bit at this place of a slot. */
+static unsigned noise(uint32_t seed, uint32_t mask, unsigned place) {
+    uint32_t sum = 0;
+    while (place-- > 0) seed = (seed << 1 & 0xFFFFF) | ((seed >> 19 ^ seed >> 16) & 1);
+    for (seed &= mask; seed != 0; seed >>= 1) sum ^= seed & 1;
+    return sum;
+}
+
+/* Every fourth data bit of each data packet, where its part is: its sign says it, or its size, where the larger one is 0. */
+static void test_points(int mode, int k) {
+    const unsigned width = figures[mode].part_bits, size = 1000 * width;
+    struct value v;
+    unsigned p, i;
+    int right = 1;
+    begin(&one, mode, k, 14);
+    v = good_value(&one);
+    send_block(&one);
+    for (p = 0; p < (unsigned)k; p++) {
+        for (i = 0; i < 976; i += 4) {
+            const unsigned bit = outgoing(&one, coded_of(&one, i)), at = figures[mode].packet_bits * p + bit, slot = at / size;
+            const unsigned data = one.data[p * FLO_PACKET_BYTES + i / 8] >> (7 - i % 8) & 1;
+            const unsigned sent = data ^ noise(v.seeds[slot], v.masks[1 + slot % 7], at % size);
+            const float part = *part_of(&one, p, bit);
+            right = right && sent == (unsigned)(width == 1 || bit % 2 == 1 ? part < 0.0f : part == 0.5f || part == -0.5f);
+        }
+    }
+    test("the parts say the data's bits", right);
+}
+
+/* Packets 4 and 6 are damaged where packet 5 begins and ends: in modes 2 and 4 they share slots with it. Packet 5 is none the worse for it. */
+static void test_neighbours(int mode, int k) {
+    const unsigned last = figures[mode].packet_bits - 1;
+    begin(&one, mode, k, 10);
+    send_block(&one);
+    *part_of(&one, 4, last) = NAN;
+    turn_over(&one, 6, 0);
+    test("the packets before and after one are damaged", receive(&one, 0) == FLO_DONE && one.lost == 0x0050 && came_back(&one));
+    test("a doubtful last bit, a wrong first bit", one.reasons[4] == FLO_DOUBTFUL && one.reasons[6] == FLO_CHECK_WORD);
+    send_block(&one);
+    turn_over(&one, 4, last);
+    *part_of(&one, 6, 0) = -0.0f;
+    test("the other way round", receive(&one, 0) == FLO_DONE && one.lost == 0x0050 && came_back(&one));
+    test("a wrong last bit, a doubtful first bit", one.reasons[4] == FLO_CODED_BITS && one.reasons[6] == FLO_DOUBTFUL);
+}
+
+/* Parts on the lines that decide, at 0 and, in modes 2 to 4, at 1 and -1 (the level is 0.5), next to them and far away, and what they decide to, as
+   the bytes of a state number it; in modes 0 and 1 only the sign counts. */
+static const struct {
+    float part;
+    int decision;
+} lines[] = {
+    {1.5f, 0},         {1.00000012f, 0}, {INFINITY, 0}, {-1.5f, 1},         {-1.00000012f, 1}, {-INFINITY, 1}, {0.5f, 2},
+    {0.99999994f, 2},  {1e-40f, 2},      {-0.5f, 3},    {-0.99999994f, 3},  {-1e-40f, 3},      {0.0f, 4},      {-0.0f, 4},
+    {NAN, 4},          {1.0f, 4},        {-1.0f, 4},
+};
+enum { LINES = sizeof lines / sizeof lines[0] };
+
+static int decision_of(int mode, unsigned line) {
+    if (mode >= 2) return lines[line].decision;
+    return lines[line].part > 0.0f ? 0 : lines[line].part < 0.0f ? 1 : 2;
+}
+
+/* Each of them in the place of each of a packet's first parts: the packet is lost exactly when it isn't decided as what was sent. */
+static void test_lines(int mode, int k) {
+    unsigned bit, i, j;
+    begin(&one, mode, k, 11);
+    send_block(&one);
+    for (bit = 0; bit < 16; bit += figures[mode].part_bits) {
+        float *part = part_of(&one, 3, bit);
+        const float sent = *part;
+        for (j = 0; j < LINES && lines[j].part != sent;) j++;
+        test("a part is as sent", j < LINES);
+        for (i = 0; i < LINES && j < LINES; i++) {
+            const int same = decision_of(mode, i) == decision_of(mode, j), doubtful = decision_of(mode, i) == (mode >= 2 ? 4 : 2);
+            *part = lines[i].part;
+            test("a part on a line or beside it", receive(&one, 0) == FLO_DONE && came_back(&one) && one.lost == (same ? 0 : 8) &&
+                                                      (one.reasons[3] == FLO_DOUBTFUL) == doubtful);
+        }
+        *part = sent;
+    }
 }
 
 /* A grid in pieces of one size and asked for is what it is whole: the number, the answers, the data. */
@@ -260,7 +357,7 @@ static void test_pieces(int mode, int k) {
     send_block(b);
     for (i = k == 14 ? 0 : 1; i < sizeof sizes / sizeof sizes[0]; i++) test("a grid in pieces", fed_as_whole(b, sizes[i], 0) && came_back(b));
     *part_of(b, 0, 8) = 0.0f;
-    turn_over(part_of(b, 15, 700));
+    turn_over(b, 15, 700);
     for (i = 2; i < sizeof sizes / sizeof sizes[0]; i++) {
         test("a damaged grid in pieces", fed_as_whole(b, sizes[i], 0) && came_back(b) && b->lost == 0x8001);
         test("too many are lost", fed_as_whole(b, sizes[i], 0xFF80) && b->lost == 0xFF81 && b->reasons[0] == FLO_DOUBTFUL);
@@ -274,8 +371,8 @@ static void test_pieces(int mode, int k) {
 
 /* What the bytes of a state say, and that a call which is refused or only asks leaves them. */
 static void test_state(int mode, int k) {
-    static const float firsts[] = {1.0f, -1.0f, -0.0f, 0.25f, NAN}, seconds[] = {0.5f, 0.5f, 0.0f, -3.0f, -INFINITY};
-    static const uint8_t bytes[] = {0, 5, 0, 1, 8, 3, 5};
+    static const float firsts[] = {1.0f, -1.25f, -0.0f, 0.25f, NAN}, seconds[] = {0.5f, 0.5f, 0.0f, -3.0f, -INFINITY};
+    static const uint8_t bytes[2][7] = {{0, 5, 0, 1, 8, 3, 5}, {0, 5, 4 + 10, 1 + 10, 4 + 20, 2 + 5, 4 + 5}};
     static uint8_t state[FLO_STATE];
     static float many[65536]; /* five cells and so many more are five again, to a count of 16 bits */
     struct block *b = &one;
@@ -283,7 +380,7 @@ static void test_state(int mode, int k) {
     begin(b, mode, k, 7);
     memset(b->state, 0, FLO_STATE);
     memset(state, 0, sizeof state);
-    memcpy(state, bytes, sizeof bytes);
+    memcpy(state, bytes[mode >= 2], sizeof bytes[0]);
     test("five cells", feed_lists(b, b->state, FLO_STATE, firsts, 5, seconds, 5) == FLO_DONE);
     test("their bytes", memcmp(b->state, state, FLO_STATE) == 0);
     test("an empty piece", feed_lists(b, b->state, FLO_STATE, NULL, 0, NULL, 0) == FLO_DONE);
@@ -323,10 +420,32 @@ static int no_such_byte(struct block *b, uint8_t *state, size_t place, int byte)
     return refused;
 }
 
+/* The bytes of all pairs of parts on the lines and beside them. */
+static void test_state_lines(int mode, int k) {
+    static float firsts[LINES * LINES], seconds[LINES * LINES];
+    static uint8_t state[FLO_STATE];
+    struct block *b = &one;
+    unsigned i;
+    begin(b, mode, k, 12);
+    memset(b->state, 0, FLO_STATE);
+    memset(state, 0, sizeof state);
+    for (i = 0; i < LINES * LINES; i++) {
+        firsts[i] = lines[i % LINES].part;
+        seconds[i] = lines[i / LINES].part;
+        state[2 + i] = (uint8_t)(decision_of(mode, i % LINES) + (mode >= 2 ? 5 : 3) * decision_of(mode, i / LINES));
+    }
+    state[0] = (uint8_t)(LINES * LINES / 256);
+    state[1] = (uint8_t)(LINES * LINES % 256);
+    test("cells on the lines", feed_lists(b, b->state, FLO_STATE, firsts, LINES * LINES, seconds, LINES * LINES) == FLO_DONE);
+    test("the bytes of cells on the lines", memcmp(b->state, state, FLO_STATE) == 0);
+}
+
 static void test_spoilt(int mode, int k) {
     static uint8_t state[FLO_STATE + 1];
     struct block *b = &one;
     const size_t cells = (size_t)FLO_SYMBOLS(mode) * FLO_SYMBOL_CELLS;
+    const int most = mode >= 2 ? 24 : 8; /* what a cell's byte can be */
+    int other_mode;
     begin(b, mode, k, 8);
     send_block(b);
     memset(b->state, 0, FLO_STATE);
@@ -335,17 +454,22 @@ static void test_spoilt(int mode, int k) {
     memcpy(state, b->state, FLO_STATE);
     test("a state that is too short", no_such_state(b, state, FLO_STATE - 1) && no_such_state(b, state, 2) && no_such_state(b, state, 0));
     test("a state that is too long", no_such_state(b, state, FLO_STATE + 1));
-    test("a byte that no cell leaves", no_such_byte(b, state, 2, 9) && no_such_byte(b, state, 2 + 2047, 16) && no_such_byte(b, state, 1000, 255));
-    test("a byte of a cell to come", no_such_byte(b, state, 2 + 2048, 1) && no_such_byte(b, state, 1 + cells, 8));
+    test("a byte that no cell leaves", no_such_byte(b, state, 2, most + 1) && no_such_byte(b, state, 2 + 2047, most + 8) &&
+                                           no_such_byte(b, state, 1000, 255));
+    test("a byte of a cell to come", no_such_byte(b, state, 2 + 2048, 1) && no_such_byte(b, state, 1 + cells, most));
     test("the state's last byte", no_such_byte(b, state, FLO_STATE - 1, 1));
     test("fewer cells than have bytes", no_such_byte(b, state, 0, 7));
     test("more cells than there are", no_such_byte(b, state, 0, (int)(cells / 256) + 1) && no_such_byte(b, state, 0, 255));
     test("the state itself", feed_lists(b, state, FLO_STATE, b->firsts + 2048, cells - 2048, b->seconds + 2048, cells - 2048) == FLO_DONE);
     memcpy(b->state, state, FLO_STATE);
     test("a copy of the state", ask(b, 0) == FLO_DONE && came_back(b));
-    b->mode ^= 1;
-    write_profile(b);
-    test("a full state in the other mode", mode == 0 ? no_such_state(b, state, FLO_STATE) : ask(b, 0) == FLO_CELLS_MISSING);
+    for (other_mode = 0; other_mode < MODES; other_mode++) {
+        const int fits = FLO_SYMBOLS(other_mode) > FLO_SYMBOLS(mode) && (other_mode >= 2) == (mode >= 2);
+        if (other_mode == mode) continue;
+        b->mode = (uint8_t)other_mode;
+        write_profile(b);
+        test("a full state in another mode", fits ? ask(b, 0) == FLO_CELLS_MISSING : no_such_state(b, state, FLO_STATE));
+    }
 }
 
 /* The profile as it is now is refused by this number: by all calls, with the lent memory kept and the answers zero. */
@@ -407,7 +531,9 @@ static void test_refusals(int mode, int k) {
 
 /* ---- numbers outside their range: which one is it, and where */
 
-/* In the profile's order: the number that names it, the byte where it begins, and what stands there. From 181 on, mode 1 has unused seeds. */
+/* In the order of their tests: the number that names it, the byte where it begins, and what stands there. Unused seeds begin at 181, 149, 117 and 101
+   in modes 1 to 4. The level whose triple is just not finite is a fault in modes 2 to 4 only. */
+enum { TOO_LARGE = 0x7EAAAAAB };
 static const struct fault {
     uint32_t number;
     size_t place;
@@ -416,11 +542,16 @@ static const struct fault {
     {FLO_BAD_MASK, 3, 0}, {FLO_BAD_MASK, 15, 1048576}, {FLO_BAD_MASK, 31, 0xFFFFFFFF},
     {FLO_BAD_LEVEL, 38, 0}, {FLO_BAD_LEVEL, 38, 0xBF000000}, {FLO_BAD_LEVEL, 38, 0x007FFFFF}, /* zero, -0.5, subnormal */
     {FLO_BAD_LEVEL, 38, 0x7F800000}, {FLO_BAD_LEVEL, 38, 0x7FC00000},                         /* infinity, NaN */
-    {FLO_BAD_MODE, 45, 2}, {FLO_BAD_K, 49, 9},
-    {FLO_BAD_SEED, 53, 0}, {FLO_BAD_SEED, 113, 1048576}, {FLO_BAD_SEED, 177, 0},
-    {FLO_BAD_SEED, 181, 1048576}, {FLO_BAD_SEED, 213, 0x80000001}, {FLO_BAD_SEED, 241, 0xFFFFFFFF},
+    {FLO_BAD_MODE, 45, 5}, {FLO_BAD_LEVEL, 38, TOO_LARGE}, {FLO_BAD_K, 49, 9},
+    {FLO_BAD_SEED, 53, 0}, {FLO_BAD_SEED, 97, 0}, {FLO_BAD_SEED, 101, 1048576}, {FLO_BAD_SEED, 113, 1048576}, {FLO_BAD_SEED, 117, 0xFFFFFFFF},
+    {FLO_BAD_SEED, 145, 1048577}, {FLO_BAD_SEED, 149, 0x80000000}, {FLO_BAD_SEED, 177, 1048576}, {FLO_BAD_SEED, 181, 1048576},
+    {FLO_BAD_SEED, 213, 0x80000001}, {FLO_BAD_SEED, 241, 0xFFFFFFFF},
 };
 enum { FAULTS = sizeof faults / sizeof faults[0] };
+
+static int is_fault(int mode, const struct fault *f) {
+    return mode >= 2 || f->bad != TOO_LARGE;
+}
 
 static void spoil_value(struct value *v, const struct fault *f) {
     if (f->place < 35) v->masks[(f->place - 3) / 4] = f->bad;
@@ -468,10 +599,11 @@ static void test_faults(int mode, int k) {
     struct block *b = &one;
     unsigned i, j;
     for (i = 0; i < FAULTS; i++)
-        for (j = i; j < FAULTS; j++) test_pair(b, mode, k, &faults[i], &faults[j]);
+        for (j = i; j < FAULTS; j++)
+            if (is_fault(mode, &faults[i])) test_pair(b, mode, k, &faults[i], &faults[j]);
     for (i = 0; i < FAULTS; i++) {
         begin(b, mode, k, 9);
-        if (faults[i].place >= b->profile_length) continue;
+        if (faults[i].place >= b->profile_length || !is_fault(mode, &faults[i])) continue;
         spoil_bytes(b, &faults[i]);
         b->due = faults[i].place;
         b->profile[50] = 6;
@@ -479,13 +611,43 @@ static void test_faults(int mode, int k) {
         b->profile[2] = 33;
         test("a bad number and the first field's length", is_refused(b, FLO_WRONG_LENGTH));
     }
-    for (i = 32; i < FLO_SEEDS && mode == 1; i++) {
+    for (i = figures[mode].slots; i < FLO_SEEDS; i++) {
         struct value v;
         begin(b, mode, k, 9);
         v = good_value(b);
         v.seeds[i] = 1;
         v.seeds[47] = 2;
         test("an unused seed that isn't zero", is_unwritten(b, &v, FLO_BAD_SEED, 53 + 4 * (size_t)i));
+    }
+}
+
+/* Levels at the ends of what a mode can send: they are written, read and sent, in modes 2 to 4 with their triples, or refused. */
+static void test_levels(int mode, int k) {
+    static const uint32_t levels[] = {0x00800000, 0x7EAAAAA9, 0x7EAAAAAA, TOO_LARGE, 0x7F000000, 0x7F7FFFFF};
+    static const uint32_t triples[] = {0x01400000, 0x7F7FFFFE, 0x7F7FFFFF, 0, 0, 0};
+    struct block *b = &one;
+    unsigned i, c;
+    for (i = 0; i < sizeof levels / sizeof levels[0]; i++) {
+        struct value v;
+        uint32_t bits;
+        size_t inner = 0, outer = 0, silent = 0;
+        begin(b, mode, k, 13);
+        v = good_value(b);
+        memcpy(&v.level, &levels[i], sizeof v.level);
+        if (mode >= 2 && triples[i] == 0) {
+            test("a level whose triple isn't finite", is_unwritten(b, &v, FLO_BAD_LEVEL, 38));
+            continue;
+        }
+        test("a level that can be sent", write_value(b, &v) == FLO_DONE && send_block(b) == FLO_DONE);
+        for (c = 0; c < 2 * b->cells; c++) {
+            memcpy(&bits, c < b->cells ? &b->firsts[c] : &b->seconds[c - b->cells], sizeof bits);
+            inner += (bits & 0x7FFFFFFF) == levels[i];
+            outer += mode >= 2 && (bits & 0x7FFFFFFF) == triples[i];
+            silent += bits == 0;
+        }
+        test("its parts", inner > 0 && (outer > 0) == (mode >= 2) && inner + outer == 1000 * (size_t)figures[mode].slots &&
+                              inner + outer + silent == 2 * b->cells);
+        test("they come back", receive(b, 0) == FLO_DONE && came_back(b) && no_answer(b));
     }
 }
 
@@ -636,9 +798,9 @@ static int same_block(const struct block *a, const struct block *b) {
 }
 
 static int run_block(struct block *b, int number) {
-    begin(b, number % 2, number < 2 ? 8 : 14, (unsigned)number);
+    begin(b, number % MODES, number < 2 ? 8 : 14, (unsigned)number);
     if (send_block(b) != FLO_DONE) return 0;
-    turn_over(part_of(b, (unsigned)number, 500));
+    turn_over(b, (unsigned)number, 500);
     if (receive(b, 0x8000) != FLO_DONE || !came_back(b)) return 0;
     return feed_all(b, 3000) && ask(b, 0x8000) == FLO_DONE && came_back(b);
 }
@@ -769,9 +931,9 @@ static void test_stack(void) {
     printf("stack in bytes, beside the %lu of a thread that does nothing:", (unsigned long)thread);
     for (i = 0; i < sizeof calls / sizeof calls[0]; i++) {
         size_t most = 0;
-        for (j = 0; j < 6; j++) {
+        for (j = 0; j < 3 * MODES; j++) {
             size_t used;
-            begin(&small, (int)(j % 2), ks[j / 2], 4);
+            begin(&small, (int)(j % MODES), ks[j / MODES], 4);
             send_block(&small);
             feed_all(&small, CELLS);
             used = stack_of(calls[i].call);
@@ -785,17 +947,24 @@ static void test_stack(void) {
 
 int main(void) {
     static const int ks[] = {8, 12, 14};
-    int i;
+    int i, mode;
     test("the sizes agree", FLO_BLOCK_BYTES == FLO_PACKETS * FLO_PACKET_BYTES && FLO_MOST_DATA == 14 * FLO_PACKET_BYTES &&
                                 FLO_MOST_SYMBOLS == FLO_SYMBOLS(0) && FLO_STATE == 2 + CELLS && FLO_DIFFERENCE == 6);
-    for (i = 0; i < 6; i++) {
-        test_round_trip(i % 2, ks[i / 2]);
-        test_damage(i % 2, ks[i / 2]);
-        test_refusals(i % 2, ks[i / 2]);
-        test_faults(i % 2, ks[i / 2]);
-        test_pieces(i % 2, ks[i / 2]);
-        test_state(i % 2, ks[i / 2]);
-        test_spoilt(i % 2, ks[i / 2]);
+    for (i = 0; i < 3 * MODES; i++) {
+        test_round_trip(i % MODES, ks[i / MODES]);
+        test_points(i % MODES, ks[i / MODES]);
+        test_damage(i % MODES, ks[i / MODES]);
+        test_neighbours(i % MODES, ks[i / MODES]);
+        test_refusals(i % MODES, ks[i / MODES]);
+        test_pieces(i % MODES, ks[i / MODES]);
+        test_state(i % MODES, ks[i / MODES]);
+        test_spoilt(i % MODES, ks[i / MODES]);
+    }
+    for (mode = 0; mode < MODES; mode++) {
+        test_faults(mode, ks[mode % 3]);
+        test_levels(mode, ks[mode % 3]);
+        test_lines(mode, ks[mode % 3]);
+        test_state_lines(mode, ks[mode % 3]);
     }
     test_compare();
     test_patterns();
