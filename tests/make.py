@@ -14,9 +14,11 @@ import sys
 sys.path.insert(0, os.path.join(os.path.dirname(os.path.abspath(__file__)), "..", "outside"))
 import flo
 
+SEEDS = 48, 32, 24, 16, 12
+
 def profile(mode, k):
     masks = [(i * 130003 + 77777) % 1048575 + 1 for i in range(8)]
-    seeds = [(t * 21001 + 4242) % 1048575 + 1 for t in range(48 if mode == 0 else 32)]
+    seeds = [(t * 21001 + 4242) % 1048575 + 1 for t in range(SEEDS[mode])]
     return masks, 1.0, mode, k, seeds
 
 def head(mode, k):
