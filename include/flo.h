@@ -40,7 +40,7 @@ extern "C" {
 #define FLO_STATE 28674                           /* bytes of flo_feed's state, in every mode: 2, and one for each cell of the largest grid */
 #define FLO_DIFFERENCE 6                          /* numbers that flo_compare lists for a difference */
 
-/* A thread with a stack of this many bytes can make every call. As measured on x86-64, a call takes at most 144,000 of them (docs/MEASURED.md). */
+/* A thread with a stack of this many bytes can make every call. As measured on Arm, a call takes at most 152,000 of them (docs/MEASURED.md). */
 #define FLO_STACK 262144
 
 /* Every call answers one of these numbers: the first that reading the profile finds (1, 2, 3, 5, 40 to 44), then the first that fits of the call's

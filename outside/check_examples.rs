@@ -91,13 +91,15 @@ fn formula(count: usize) -> Vec<u8> {
 
 /// The first 32 bits of a coded packet and the last, as `python3 outside/flo.py vectors` prints them.
 fn coded(tally: &mut Tally) {
-    let packet: [u8; PACKET] = formula(PACKET).try_into().unwrap();
-    let bits = plain::packet_bits(&packet, plain::check_word(&packet), 0);
-    for (rate, first, last) in [
-        (Rate::Third, "01110010011000110101011101000110", "01000101011110110011100011100010"),
-        (Rate::Half, "01110010001101110100011000110100", "00000100110001010111101110000010"),
-        (Rate::TwoThirds, "01110011011101000110000101100100", "01010001000011000100011110111000"),
+    let (zeros, ones, formula) = ([0; PACKET], [255; PACKET], formula(PACKET).try_into().unwrap());
+    for (packet, rate, first, last) in [
+        (formula, Rate::Third, "01110010011000110101011101000110", "01000101011110110011100011100010"),
+        (formula, Rate::Half, "01110010001101110100011000110100", "00000100110001010111101110000010"),
+        (formula, Rate::TwoThirds, "01110011011101000110000101100100", "01010001000011000100011110111000"),
+        (zeros, Rate::TwoThirds, "00000000000100000000001000000000", "00000101000100010011000100000001"),
+        (ones, Rate::TwoThirds, "11111101101011111110011111110111", "11111111111111110110111001101110"),
     ] {
+        let bits = plain::packet_bits(&packet, plain::check_word(&packet), 0);
         let mut coded = [0; CODED];
         let coded = &mut coded[..rate.length()];
         plain::encode(&bits, rate, coded);

@@ -4,8 +4,8 @@
 //! After every call the state is compared with the plain program's byte for byte; at a grid's end the answer is also compared with both
 //! programs' for the whole grid.
 
-use crate::check_profile::{damaged, random_profile, written, KS, MODES};
-use crate::check_receive::{any_grid, line_parts};
+use crate::check_profile::{damaged, edge_profiles, random_profile, written, KS, MODES};
+use crate::check_receive::{any_grid, clean_grid, line_parts, Receiving};
 use crate::check_send::often_right;
 use crate::check_tools::{Call, Given, Random, Room, Tally};
 use crate::library;
@@ -80,11 +80,16 @@ struct Feeding<'a> {
 }
 
 impl<'a> Feeding<'a> {
-    fn new(random: &mut Random, spare: &'a [f32], mode: u8, k: u8) -> Feeding<'a> {
-        let grid = any_grid(random, mode, k);
+    fn new(random: &mut Random, spare: &'a [f32], grid: Receiving) -> Feeding<'a> {
         let state = lent(random, &[0; STATE]);
         let (bytes, came) = (written(&grid.profile), Came::nothing());
-        let mut new = Feeding { profile: grid.profile, bytes, marks: grid.marks, firsts: grid.firsts, seconds: grid.seconds, came, state, spare };
+        Feeding { profile: grid.profile, bytes, marks: grid.marks, firsts: grid.firsts, seconds: grid.seconds, came, state, spare }
+    }
+
+    /// Any grid, at times with noise, at times nothing but that.
+    fn any(random: &mut Random, spare: &'a [f32], mode: u8, k: u8) -> Feeding<'a> {
+        let grid = any_grid(random, mode, k);
+        let mut new = Feeding::new(random, spare, grid);
         match random.below(10) {
             0 => new.noise(random),
             1 => new.firsts.iter_mut().chain(&mut new.seconds).for_each(|part| *part = random.float()),
@@ -193,8 +198,7 @@ impl Cutting {
     }
 }
 
-fn cut_case(random: &mut Random, tally: &mut Tally, spare: &[f32], (mode, k): (u8, u8), cutting: Cutting) {
-    let mut feeding = Feeding::new(random, spare, mode, k);
+fn cut_case(random: &mut Random, tally: &mut Tally, mut feeding: Feeding, cutting: Cutting) {
     feeding.between(random, tally);
     while feeding.rest() > 0 {
         let size = cutting.next(random, feeding.came.cells(), feeding.rest());
@@ -211,10 +215,17 @@ fn cut_case(random: &mut Random, tally: &mut Tally, spare: &[f32], (mode, k): (u
 fn cut_cases(random: &mut Random, tally: &mut Tally, spare: &[f32], mode: u8) {
     for size in [10, 63, 64, 65, 1000, 4095, 4096, 4097, 2 * CELLS, 7 * CELLS, 7 * CELLS] {
         let k = random.pick(&KS);
-        cut_case(random, tally, spare, (mode, k), Cutting::Even(size));
+        let feeding = Feeding::any(random, spare, mode, k);
+        cut_case(random, tally, feeding, Cutting::Even(size));
     }
     for k in KS.into_iter().cycle().take(48) {
-        cut_case(random, tally, spare, (mode, k), Cutting::Mixed);
+        let feeding = Feeding::any(random, spare, mode, k);
+        cut_case(random, tally, feeding, Cutting::Mixed);
+    }
+    for profile in edge_profiles(random, mode, 12) {
+        let grid = clean_grid(random, "the least or the largest level", profile);
+        let feeding = Feeding::new(random, spare, grid);
+        cut_case(random, tally, feeding, Cutting::Mixed);
     }
 }
 
@@ -372,7 +383,8 @@ pub fn run(random: &mut Random, tally: &mut Tally) {
         KS.into_iter().for_each(|k| wrong_cases(random, tally, &spare, mode, k));
         (0..30).for_each(|_| line_case(random, tally, mode));
     }
-    for single in [(0, 12), (2, 14), (4, 8)] {
-        cut_case(random, tally, &spare, single, Cutting::Even(1));
+    for (mode, k) in [(0, 12), (2, 14), (4, 8)] {
+        let feeding = Feeding::any(random, &spare, mode, k);
+        cut_case(random, tally, feeding, Cutting::Even(1));
     }
 }

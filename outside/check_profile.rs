@@ -22,9 +22,14 @@ fn random_state(random: &mut Random) -> u32 {
     }
 }
 
+/// The largest level that the mode can send.
+fn largest_level(mode: u8) -> u32 {
+    if mode < 2 { 0x7F7F_FFFF } else { LARGEST }
+}
+
 /// A level that the mode can send.
-pub fn random_level(random: &mut Random, mode: u8) -> f32 {
-    let most = if mode < 2 { 0x7F7F_FFFF } else { LARGEST };
+fn random_level(random: &mut Random, mode: u8) -> f32 {
+    let most = largest_level(mode);
     let any = 0x0080_0000 + random.below((most - 0x0080_0000) as usize + 1) as u32;
     let edge = random.pick(&EDGE_LEVELS);
     f32::from_bits(if random.percent(20) && edge <= most { edge } else { any })
@@ -36,6 +41,11 @@ pub fn random_profile(random: &mut Random, mode: u8, k: u8) -> Profile {
     let slots = profile.slots();
     profile.seeds[..slots].iter_mut().for_each(|seed| *seed = random_state(random));
     profile
+}
+
+/// Two profiles with the least level that the mode can send and with the largest.
+pub fn edge_profiles(random: &mut Random, mode: u8, k: u8) -> [Profile; 2] {
+    [0x0080_0000, largest_level(mode)].map(|level| Profile { level: f32::from_bits(level), ..random_profile(random, mode, k) })
 }
 
 pub fn written(profile: &Profile) -> Vec<u8> {

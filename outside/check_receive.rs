@@ -3,7 +3,7 @@
 //!
 //! Where a fault is made so that its reason is known beforehand, that is compared too; so the plain receiver is tested as well.
 
-use crate::check_profile::{damaged, random_profile, written, KS, MODES};
+use crate::check_profile::{damaged, edge_profiles, random_profile, written, KS, MODES};
 use crate::check_send::{near, often_right};
 use crate::check_tools::{Call, Given, Kind, Random, Room, Tally, LARGEST};
 use crate::plain::{self, Block, Profile, Rate, CELLS, ENTERING, PACKET, PACKETS, POINTS};
@@ -319,11 +319,23 @@ pub fn any_grid(random: &mut Random, mode: u8, k: u8) -> Receiving {
     receiving
 }
 
-/// A block's grid as sent, nothing else in it, and its data.
-fn clean_grid(random: &mut Random, label: &'static str, mode: u8, k: u8) -> (Vec<u8>, Receiving) {
-    let profile = random_profile(random, mode, k);
+/// A grid of codewords as sent, nothing else in it.
+pub fn clean_grid(random: &mut Random, label: &'static str, profile: Profile) -> Receiving {
     let (data, block) = codewords(random, &profile);
-    (data, Receiving::sent(random, label, profile, &block, &no_faults()))
+    Receiving { data: Some(data), ..Receiving::sent(random, label, profile, &block, &no_faults()) }
+}
+
+/// The same with any profile of a mode.
+fn any_clean_grid(random: &mut Random, label: &'static str, mode: u8, k: u8) -> Receiving {
+    let profile = random_profile(random, mode, k);
+    clean_grid(random, label, profile)
+}
+
+/// Grids as sent, with the least and the largest level.
+fn edge_cases(random: &mut Random, tally: &mut Tally, mode: u8, k: u8) {
+    for profile in edge_profiles(random, mode, k) {
+        clean_grid(random, "the least or the largest level", profile).compare(tally);
+    }
 }
 
 fn fault_cases(random: &mut Random, tally: &mut Tally, mode: u8, k: u8) {
@@ -367,11 +379,12 @@ fn other_levels(random: &mut Random, sent: f32) -> Vec<(Kind, f32, Option<u8>)> 
 
 fn level_cases(random: &mut Random, tally: &mut Tally, mode: u8, k: u8) {
     for _ in 0..2 {
-        let (data, mut receiving) = clean_grid(random, "another level", mode, k);
-        for (kind, level, reason) in other_levels(random, receiving.profile.level) {
-            receiving.bytes = written(&Profile { level, ..receiving.profile });
-            receiving.reasons = [reason; PACKETS];
-            receiving.data = (reason == Some(ACCEPTED)).then(|| data.clone());
+        let sent = any_clean_grid(random, "another level", mode, k);
+        for (kind, level, reason) in other_levels(random, sent.profile.level) {
+            let mut receiving = Receiving { bytes: written(&Profile { level, ..sent.profile }), reasons: [reason; PACKETS], ..sent.clone() };
+            if reason.is_none() {
+                receiving.data = None;
+            }
             receiving.compare(tally);
             tally.kind(kind);
         }
@@ -412,7 +425,7 @@ pub fn line_parts(profile: &Profile) -> Vec<(Kind, f32, Option<Vec<u8>>)> {
 /// that it decides to say why not.
 fn line_cases(random: &mut Random, tally: &mut Tally, mode: u8, k: u8) {
     for _ in 0..6 {
-        let (_, mut receiving) = clean_grid(random, "parts on the lines", mode, k);
+        let mut receiving = any_clean_grid(random, "parts on the lines", mode, k);
         let (profile, parts) = (receiving.profile, line_parts(&receiving.profile));
         let from = random.below(parts.len());
         for p in 0..PACKETS {
@@ -442,7 +455,7 @@ fn end_bits(profile: &Profile, p: usize) -> Vec<usize> {
 fn end_cases(random: &mut Random, tally: &mut Tally, mode: u8) {
     for (which, is_doubt, turn) in (0..32).map(|n| (n % 2, n / 2 % 2 == 0, n / 4)) {
         let k = random.pick(&KS);
-        let (_, mut receiving) = clean_grid(random, "faults at a packet's ends", mode, k);
+        let mut receiving = any_clean_grid(random, "faults at a packet's ends", mode, k);
         let profile = receiving.profile;
         let mut some = false;
         for p in (which..PACKETS).step_by(2) {
@@ -515,6 +528,7 @@ fn wrong_cases(random: &mut Random, tally: &mut Tally, mode: u8, k: u8) {
 
 pub fn run(random: &mut Random, tally: &mut Tally) {
     for (mode, k) in MODES.into_iter().flat_map(|mode| KS.map(|k| (mode, k))) {
+        edge_cases(random, tally, mode, k);
         fault_cases(random, tally, mode, k);
         marked_cases(random, tally, mode, k);
         altered_cases(random, tally, mode, k);

@@ -1,6 +1,6 @@
 //! The tests of sending: whole grids, single symbols, refusals; and of the outer parity alone.
 
-use crate::check_profile::{damaged, random_profile, written, KS, MODES};
+use crate::check_profile::{damaged, edge_profiles, random_profile, written, KS, MODES};
 use crate::check_tools::{Call, Given, Random, Room, Tally};
 use crate::plain::{Profile, BLOCK, CELLS, PACKET};
 use crate::{library, plain};
@@ -69,16 +69,27 @@ pub fn right_lengths(profile: &Profile, symbol: Option<usize>) -> [usize; 3] {
     [profile.data_length(), cells, cells]
 }
 
-/// Sends with nothing wrong: grids, and all symbols of one of them.
-fn right_cases(random: &mut Random, tally: &mut Tally, mode: u8, k: u8) {
-    for _ in 0..100 {
-        let profile = random_profile(random, mode, k);
-        Sending::new(random, "a right grid", written(&profile), None, right_lengths(&profile, None)).compare(tally);
+/// Sends with nothing wrong: a grid, and all symbols of one.
+fn right_grid(random: &mut Random, tally: &mut Tally, profile: &Profile) {
+    Sending::new(random, "a right grid", written(profile), None, right_lengths(profile, None)).compare(tally);
+}
+
+fn right_symbols(random: &mut Random, tally: &mut Tally, profile: &Profile) {
+    for symbol in (0..profile.symbols()).map(Some) {
+        Sending::new(random, "a right symbol", written(profile), symbol, right_lengths(profile, symbol)).compare(tally);
     }
-    for _ in 0..20 {
+}
+
+fn right_cases(random: &mut Random, tally: &mut Tally, mode: u8, k: u8) {
+    for profile in edge_profiles(random, mode, k) {
+        right_grid(random, tally, &profile);
+        right_symbols(random, tally, &profile);
+    }
+    for i in 0..100 {
         let profile = random_profile(random, mode, k);
-        for symbol in (0..profile.symbols()).map(Some) {
-            Sending::new(random, "a right symbol", written(&profile), symbol, right_lengths(&profile, symbol)).compare(tally);
+        right_grid(random, tally, &profile);
+        if i % 5 == 0 {
+            right_symbols(random, tally, &profile);
         }
     }
 }

@@ -10,7 +10,7 @@ ghost use Rattle.rules.specs.Profile.{inRange};
 ghost use Rattle.rules.specs.Block.{understood, inBlock, Delivered, Judged};
 ghost use Rattle.rules.specs.Pieces.{keptBit};
 ghost use Rattle.receiving.specs.Steps.{KeptBits};
-use block::scrambled;
+use block::scramble;
 use modes::block_bits;
 use rules::Profile;
 use rules::Receipt;
@@ -44,7 +44,9 @@ fn judge(p: Profile, marks: u16, bits: [u8; 48000], data: &mut [u8]) -> Receipt
     requires { ⌜ T (inRange p) × (length (now «data») ≡ 122 * p .k) ⌝ }
     ensures { λ r. ⌜ Judged p marks (understood p (row bits)) (now («data» .entry)) (now («data» .exit)) r ⌝ }
 {
-    let v = turbo::judge_block(p.mode, marks, scrambled(p, bits));
+    let mut plain = bits;
+    scramble(p, &mut plain);
+    let v = turbo::judge_block(p.mode, marks, plain);
     let block = v.block;
     let reasons = v.reasons;
     Receipt {

@@ -10,7 +10,7 @@ ghost use Rattle.rules.specs.Profile.{inRange};
 ghost use Rattle.rules.specs.Block.{packet, sentBit, SendRule, SendSymbolRule};
 ghost use Rattle.sending.specs.Steps.{Grid};
 use block::early;
-use block::scrambled;
+use block::scramble;
 use modes::block_bits;
 use modes::symbol_count;
 use profile::only;
@@ -37,8 +37,9 @@ fn sent_bits(p: Profile, data: &[u8]) -> [u8; 48000]
         → row r g ≡ sentBit p (now («data» .entry)) (g / slotBits (p .mode)) (g % slotBits (p .mode))) ⌝ }
 {
     let block = block_of(p.k, data);
-    let bits = turbo::code_block(p.mode, block);
-    scrambled(p, bits)
+    let mut bits = turbo::code_block(p.mode, block);
+    scramble(p, &mut bits);
+    bits
 }
 
 // All symbols of the block that has these bits; each is one of the grid, so none is refused.
