@@ -1,4 +1,3 @@
-pub mod Order
 pub mod Spot
 pub mod Symbol
 pub mod Reading

@@ -13,17 +13,14 @@ ghost use Rattle.rules.specs.Points.{zeroPart, pointOf, firstPart, secondPart, 
 ghost use Rattle.rules.specs.Cells as rule;
 ghost use Rattle.rules.specs.Pieces.{cellByte, keptBit};
 ghost use Rattle.laws.specs.Holds.{Holds};
-ghost use Rattle.cells.specs.Order.{Places, Points};
+ghost use Rattle.order.specs.Order.{Places, Points};
 ghost use Rattle.cells.specs.Spot.{belonging};
 ghost use Rattle.cells.specs.Symbol as symbolRule;
 ghost use Rattle.cells.specs.Symbol.{Signed, levelOf, Sized, innerOf, symbolCell, Written, WriteRule};
 ghost use Rattle.cells.specs.Reading.{signOr, byteOf, DecideRule, pointByte, spreadBit, ReadRule};
 
-mod place_table;
-mod point_table;
-
-use place_table::PLACES;
-use point_table::POINTS;
+use order::places;
+use order::points;
 use rules::Carried;
 use rules::Cell;
 use rules::Point;
@@ -169,19 +166,6 @@ fn in_grid(mode: u8, symbol: usize) -> bool
     ensures { λ r. ⌜ r ≡ ltb symbol (symbols mode) ⌝ }
 {
     symbol < modes::symbol_count(mode)
-}
-
-// The places of a slot's points, and the points at the places: to be had once for a symbol or a block, since each call copies the table.
-fn places() -> [u16; 500]
-    ensures { λ r. ⌜ Places r ⌝ }
-{
-    PLACES
-}
-
-fn points() -> [u16; 500]
-    ensures { λ r. ⌜ Points r ⌝ }
-{
-    POINTS
 }
 
 // The place of a point in its interlace, and the point at a place.

@@ -1,10 +1,10 @@
--- `cells::places` meets its contract: every entry of PLACES is compared with the rule by computation.
+-- `order::places` meets its contract: every entry of PLACES is compared with the rule by computation.
 use mathlib.Core.Path.{refl}
 use Rattle.rules.specs.Kept.{nextKept, counter}
 use Rattle.rules.specs.Cells.{placeOf}
 use Rattle.laws.specs.Filled.{holds-computed}
-use Rattle.cells.proofs.places.Statement.{statement}
-use Rattle.cells.proofs.places.Tie as tie
+use Rattle.order.proofs.places.Statement.{statement}
+use Rattle.order.proofs.places.Tie as tie
 
 returns : tie.Need-returns
 unfolding placeOf nextKept counter

@@ -1,10 +1,10 @@
--- `cells::points` meets its contract: every entry of POINTS is compared with the rule by computation.
+-- `order::points` meets its contract: every entry of POINTS is compared with the rule by computation.
 use mathlib.Core.Path.{refl}
 use Rattle.rules.specs.Kept.{count}
 use Rattle.rules.specs.Cells.{pointAt}
 use Rattle.laws.specs.Filled.{holds-computed}
-use Rattle.cells.proofs.points.Statement.{statement}
-use Rattle.cells.proofs.points.Tie as tie
+use Rattle.order.proofs.points.Statement.{statement}
+use Rattle.order.proofs.points.Tie as tie
 
 returns : tie.Need-returns
 unfolding pointAt count
