@@ -18,7 +18,6 @@ ghost use Rattle.cells.specs.Spot.{belonging};
 ghost use Rattle.cells.specs.Symbol as symbolRule;
 ghost use Rattle.cells.specs.Symbol.{Signed, levelOf, Sized, innerOf, symbolCell, Written, WriteRule};
 ghost use Rattle.cells.specs.Reading.{signOr, byteOf, DecideRule, pointByte, spreadBit, ReadRule};
-
 use order::places;
 use order::points;
 use rules::Carried;
