@@ -33,9 +33,6 @@ slots-lt m = omega (arith, figures m .slots-most)
 pub grid-cell-lt : (m t i : ℕ) → t < slots m → i < 500 → gridCell t i < 4096 * symbols m
 grid-cell-lt m t i h l = omega (arith, point-cell-lt t i l)
 
-pub block-le : (m : ℕ) → slotBits m * slots m ≤ 48000
-block-le m = omega (arith, figures m .whole, figures m .most)
-
 -- the bits of point i of block slot t are the block's
 pub point-inside : (m t i : ℕ) → t < slots m → i < 500 → slotBits m * t + 2 * partBits m * i + 2 * partBits m ≤ slotBits m * slots m
 point-inside m t i h l =

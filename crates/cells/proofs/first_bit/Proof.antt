@@ -3,7 +3,8 @@ use mathlib.Core.Path.{_≡_, ap₂}
 use Prim.Native.Nat.{ℕ, _+_, _*_, _≤_}
 use native.Mathlib.Omega.{arith}
 use Rattle.rules.specs.Modes.{slotBits, partBits, slots}
-use Rattle.cells.proofs.Reading.{block-le, point-inside}
+use Rattle.modes.proofs.Figures.{block-most}
+use Rattle.cells.proofs.Reading.{point-inside}
 use Rattle.cells.proofs.first_bit.Statement.{statement}
 use Rattle.cells.proofs.first_bit.Tie as tie
 
@@ -18,13 +19,13 @@ right c =
     (e, rw e (point-inside (a .mode) (a .t) (a .i) (c .pre .2) (c .pre .3)))
 
 mul-result : tie.Need-mul-result
-mul-result c = omega (arith, right c, block-le (c .args .mode))
+mul-result c = omega (arith, right c, block-most (c .args .mode))
 
 mul-result-2 : tie.Need-mul-result-2
-mul-result-2 c = omega (arith, right c, block-le (c .args .mode))
+mul-result-2 c = omega (arith, right c, block-most (c .args .mode))
 
 add-result : tie.Need-add-result
-add-result c = omega (arith, right c, block-le (c .args .mode))
+add-result c = omega (arith, right c, block-most (c .args .mode))
 
 returns : tie.Need-returns
 returns c = right c

@@ -13,7 +13,8 @@ use Rattle.rules.specs.Pieces.{keptBit}
 use Rattle.laws.specs.Holds.{Holds}
 use Rattle.laws.specs.Filled.{upTo, holds-first, holds-whole}
 use Rattle.laws.specs.Parts.{part-long, part-within, holds-part}
-use Rattle.cells.proofs.Reading.{block-le, kept-in-block}
+use Rattle.modes.proofs.Figures.{block-most}
+use Rattle.cells.proofs.Reading.{kept-in-block}
 use borrow.Author.Needs.{needs}
 use Rattle.cells.proofs.read_block.Statement.{statement}
 use Rattle.cells.proofs.read_block.Tie as tie
@@ -95,7 +96,7 @@ room c =
     let p = c .before .before in
     let m = p .before .before .before .before .before .before .before .before .before .before .args .mode in
     let slot = p .before .before .slot-bits in
-    (rw (slot .ensures .0) (part-within (slotBits m) (c .before .loop .t) (slots m) (omega arith)), block-le m)
+    (rw (slot .ensures .0) (part-within (slotBits m) (c .before .loop .t) (slots m) (omega arith)), block-most m)
 
 mul-at : tie.Need-mul-at Inv-loop μ-loop
 mul-at c = omega (arith, room c)
