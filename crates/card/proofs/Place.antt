@@ -7,7 +7,7 @@ use Prim.Native.Nat.{ℕ, _+_, _*_, _/_, _%_, _<_}
 use native.Mathlib.Nat.{add-zero, div-add-mod, div-eq-of-lt, mod-eq-of-lt, mul-add-div, mul-add-mod-self-left}
 use native.Mathlib.Decide.{ℕ-discrete}
 use native.Mathlib.Omega.{arith}
-use lib.Dec.{T, eqb}
+use lib.Dec.{T}
 use lib.Ieee.{Float}
 use lib.ListN.{length}
 use borrow.Author.Tests.{eq-eqb, ne-eqb}
@@ -25,7 +25,7 @@ use Rattle.packet.proofs.Bits.{packet-bit-lt}
 use Rattle.turbo.proofs.Modes.{coded-bit}
 use Rattle.turbo.proofs.Accepted.{accepted-coded, coded-accepted}
 use Rattle.slots.proofs.Twice.{scrambling-lt, unscrambled-bit, unscrambled-twice}
-use Rattle.cells.proofs.Deciding.{heard-lt}
+use Rattle.cells.proofs.Heard.{heard-lt}
 use Rattle.block.proofs.Passed.{early-right}
 
 -- with a profile in its range, and rooms of the right lengths, receiving judges

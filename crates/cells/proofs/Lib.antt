@@ -1,5 +1,5 @@
 pub mod Inverse
 pub mod Signs
 pub mod Reading
-pub mod Deciding
+pub mod Heard
 pub mod Fits

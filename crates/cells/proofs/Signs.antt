@@ -62,6 +62,10 @@ module _ (level : Float) {l : List Float} (h : Sized level l) where
   pub sized-own : Sized (innerOf l) l
   sized-own = subst (λ (x : Float). Sized x l) (sym sized-level) h
 
+-- both lists go by the level that the first shows
+pub sized-by : (level : Float) {l k : List Float} → Signed level l → Sized level k → Sized (levelOf l) k
+sized-by level {l} {k} h g = subst (λ (x : Float). Sized x k) (sym (signed-level level h)) g
+
 -- ---- the point of some bits goes by as many as it has
 
 module _ (w : ℕ) (level : Float) (s : ℕ → ℕ) where
@@ -71,3 +75,6 @@ module _ (w : ℕ) (level : Float) (s : ℕ → ℕ) where
   pub point-of-four : (a b c d : ℕ) → w ≡ 2 → a ≡ s 0 → b ≡ s 1 → c ≡ s 2 → d ≡ s 3
       → pointOf 2 level (row (a ∷ b ∷ c ∷ d ∷ [])) ≡ pointOf w level s
   point-of-four a b c d e p q u v = rw (e, p, q, u, v)
+
+  pub point-same : (s' : ℕ → ℕ) → ((j : ℕ) → s j ≡ s' j) → pointOf w level s ≡ pointOf w level s'
+  point-same s' h = λ i. pointOf w level (λ j. h j i)

@@ -1,34 +1,27 @@
-// Points, cells and decisions; one symbol's cells written from a block's bits, and a block's bits read from what its cells decide to.
+// Points and cells; one symbol's cells written from a block's bits, and a block's bits read from what its cells decide to.
 ghost use mathlib.Core.Path.{_≡_};
 ghost use mathlib.Core.Bool.{true};
 ghost use mathlib.Core.List.{[], _∷_};
 ghost use Prim.Native.Nat.{_+_, _*_, _<_, _≤_};
 ghost use lib.Dec.{eqb, ltb};
-ghost use lib.Ieee.{Float};
-ghost use lib.ListN.{length, getD};
+ghost use lib.ListN.{length};
 ghost use Rattle.rules.specs.Bits.{pick, row};
 ghost use Rattle.rules.specs.Modes.{partBits, slots, slotBits, symbols};
 ghost use Rattle.rules.specs.Points as points;
-ghost use Rattle.rules.specs.Points.{zeroPart, pointOf, firstPart, secondPart, bitIn};
+ghost use Rattle.rules.specs.Points.{pointOf, firstPart, secondPart, bitIn};
 ghost use Rattle.rules.specs.Cells as rule;
-ghost use Rattle.rules.specs.Pieces.{cellByte, keptBit};
+ghost use Rattle.rules.specs.Pieces.{keptBit};
 ghost use Rattle.laws.specs.Holds.{Holds};
 ghost use Rattle.order.specs.Order.{Places, Points};
 ghost use Rattle.cells.specs.Spot.{belonging};
 ghost use Rattle.cells.specs.Symbol as symbolRule;
 ghost use Rattle.cells.specs.Symbol.{Signed, levelOf, Sized, innerOf, symbolCell, Written, WriteRule};
-ghost use Rattle.cells.specs.Reading.{signOr, byteOf, DecideRule, pointByte, spreadBit, ReadRule};
+ghost use Rattle.cells.specs.Reading.{pointByte, spreadBit, ReadRule};
 use order::places;
 use order::points;
 use rules::Carried;
 use rules::Cell;
 use rules::Point;
-
-// The numbers that a point's two parts decide to.
-pub struct Decision {
-    pub first: u8,
-    pub second: u8,
-}
 
 // Where a cell is: in no interlace, or at a place of interlace k.
 enum Spot {
@@ -87,77 +80,25 @@ fn point_by_sizes(sized: &[f32], s0: u8, s1: u8, s2: u8, s3: u8) -> Point
     }
 }
 
+// The point of the bits from a place on, where a part has w bits: one or two.
+fn point_by(signed: &[f32], sized: &[f32], w: usize, bits: &[u8], at: usize) -> Point
+    requires { ⌜ Signed (levelOf (now signed)) (now signed) × Sized (levelOf (now signed)) (now sized)
+        × (1 ≤ w) × (w ≤ 2) × (at + 2 * w ≤ length (now bits)) ⌝ }
+    ensures { λ r. ⌜ r ≡ pointOf w (levelOf (now (signed .entry))) (λ j. row (now (bits .entry)) (at + j)) ⌝ }
+{
+    if w == 1 {
+        return point_by_signs(signed, bits[at], bits[at + 1]);
+    }
+    point_by_sizes(sized, bits[at], bits[at + 1], bits[at + 2], bits[at + 3])
+}
+
 // Of QPSK the first two bits count.
 pub fn point_of(mode: u8, level: f32, bits: [u8; 4]) -> Point
     ensures { λ r. ⌜ r ≡ pointOf (partBits mode) level (row bits) ⌝ }
 {
-    if modes::part_bits(mode) == 1 {
-        let signed = signed(level);
-        return point_by_signs(&signed, bits[0], bits[1]);
-    }
+    let signed = signed(level);
     let sized = sized(level);
-    point_by_sizes(&sized, bits[0], bits[1], bits[2], bits[3])
-}
-
-// The sign bit of a part, and for a doubtful one the number given.
-fn sign_of(part: f32, doubt: u8) -> u8
-    requires { ⌜ 1 ≤ doubt ⌝ }
-    ensures { λ r. ⌜ (r ≡ signOr doubt part) × (r ≤ doubt) ⌝ }
-{
-    if part > 0.0 {
-        return 0;
-    }
-    if part < 0.0 {
-        return 1;
-    }
-    doubt
-}
-
-// Twice the size bit of a part, and 4 for a doubtful one.
-fn size_of(level: f32, part: f32) -> u8
-    ensures { λ r. ⌜ (r ≡ 2 * points.sizeOf level part) × (r < 5) ⌝ }
-{
-    let line = 2.0 * level;
-    if part > line {
-        return 0;
-    }
-    if part < -line {
-        return 0;
-    }
-    if part > -line {
-        if part < line {
-            return 2;
-        }
-    }
-    4
-}
-
-// Both bits as a number. Where one is doubtful the sum is 4 or more: so no test of the two is needed, and many parts are decided at a time.
-fn size_and_sign(level: f32, part: f32) -> u8
-    ensures { λ r. ⌜ (r ≡ points.decide 2 level part) × (r < 5) ⌝ }
-{
-    let sum = size_of(level, part) + sign_of(part, 4);
-    if sum > 4 { 4 } else { sum }
-}
-
-// What a part decides to: the number that its bits make, and after the last such number the one for a doubtful part.
-pub fn decide(mode: u8, level: f32, part: f32) -> u8
-    ensures { λ r. ⌜ (r ≡ points.decide (partBits mode) level part) × (r < 5) ⌝ }
-{
-    if modes::part_bits(mode) == 1 {
-        return sign_of(part, 2);
-    }
-    size_and_sign(level, part)
-}
-
-pub fn decide_point(mode: u8, level: f32, p: Point) -> Decision
-    ensures { λ r. ⌜ (r .first ≡ points.decide (partBits mode) level (p .first)) × (r .second ≡ points.decide (partBits mode) level (p .second))
-        × (r .first < 5) × (r .second < 5) ⌝ }
-{
-    Decision {
-        first: decide(mode, level, p.first),
-        second: decide(mode, level, p.second),
-    }
+    point_by(&signed, &sized, modes::part_bits(mode), &bits, 0)
 }
 
 // Whether a symbol is one of the grid.
@@ -263,49 +204,28 @@ fn first_bit(mode: u8, slot: usize, point: usize, t: usize, i: usize) -> usize
     slot * t + point * i
 }
 
-// The cell of a symbol whose block has these scrambled bits, in a mode that has n slots: where a part has one bit, and where it has two.
-fn cell_by_signs(
+// The cell of a symbol whose block has these scrambled bits, in a mode that has n slots of so many bits, and w bits a part.
+fn cell_by(
     points: &[u16],
     signed: &[f32],
+    sized: &[f32],
     mode: u8,
     n: usize,
     slot: usize,
+    w: usize,
     bits: &[u8],
     symbol: usize,
     c: usize,
 ) -> Cell
-    requires { ⌜ Points (now points) × Signed (levelOf (now signed)) (now signed) × (partBits mode ≡ 1)
-        × (n ≡ slots mode) × (slot ≡ slotBits mode) × (symbol < 4096) × (length (now bits) ≡ slotBits mode * slots mode) ⌝ }
+    requires { ⌜ Points (now points) × Signed (levelOf (now signed)) (now signed) × Sized (levelOf (now signed)) (now sized)
+        × (n ≡ slots mode) × (slot ≡ slotBits mode) × (w ≡ partBits mode) × (symbol < 4096) × (length (now bits) ≡ slotBits mode * slots mode) ⌝ }
     ensures { λ r. ⌜ r ≡ symbolCell mode (levelOf (now (signed .entry))) (now (bits .entry)) symbol c ⌝ }
 {
     match carried_in(points, mode, n, symbol, c) {
         Carried::Nothing => Cell::Silent,
         Carried::PointOf(t, i) => {
-            let at = first_bit(mode, slot, 2, t, i);
-            Cell::Carries(point_by_signs(signed, bits[at], bits[at + 1]))
-        }
-    }
-}
-
-fn cell_by_sizes(
-    points: &[u16],
-    sized: &[f32],
-    mode: u8,
-    n: usize,
-    slot: usize,
-    bits: &[u8],
-    symbol: usize,
-    c: usize,
-) -> Cell
-    requires { ⌜ Points (now points) × Sized (innerOf (now sized)) (now sized) × (partBits mode ≡ 2)
-        × (n ≡ slots mode) × (slot ≡ slotBits mode) × (symbol < 4096) × (length (now bits) ≡ slotBits mode * slots mode) ⌝ }
-    ensures { λ r. ⌜ r ≡ symbolCell mode (innerOf (now (sized .entry))) (now (bits .entry)) symbol c ⌝ }
-{
-    match carried_in(points, mode, n, symbol, c) {
-        Carried::Nothing => Cell::Silent,
-        Carried::PointOf(t, i) => {
-            let at = first_bit(mode, slot, 4, t, i);
-            Cell::Carries(point_by_sizes(sized, bits[at], bits[at + 1], bits[at + 2], bits[at + 3]))
+            let at = first_bit(mode, slot, 2 * w, t, i);
+            Cell::Carries(point_by(signed, sized, w, bits, at))
         }
     }
 }
@@ -339,8 +259,8 @@ fn fitting(mode: u8, symbol: usize, bits: usize, firsts: usize, seconds: usize) 
     bits == modes::block_bits(mode)
 }
 
-// One symbol's 4096 cells, in rising order, where a part has one bit.
-fn write_by_signs(
+// One symbol's 4096 cells, in rising order.
+fn write_cells(
     mode: u8,
     level: f32,
     bits: &[u8],
@@ -348,42 +268,20 @@ fn write_by_signs(
     firsts: &mut [f32],
     seconds: &mut [f32],
 )
-    requires { ⌜ (symbolRule.fitting mode symbol (length (now bits)) (length (now firsts)) (length (now seconds)) ≡ true) × (partBits mode ≡ 1) ⌝ }
+    requires { ⌜ symbolRule.fitting mode symbol (length (now bits)) (length (now firsts)) (length (now seconds)) ≡ true ⌝ }
     ensures { λ _. ⌜ Written mode level (now (bits .entry)) symbol (now (firsts .exit)) (now (seconds .exit)) ⌝ }
 {
     let n = modes::slot_count(mode);
     let slot = modes::slot_bits(mode);
+    let w = modes::part_bits(mode);
     let points = points();
     let signed = signed(level);
+    let sized = sized(level);
     for c in 0..4096 {
-        let cell = cell_by_signs(&points, &signed, mode, n, slot, bits, symbol, c);
+        let cell = cell_by(&points, &signed, &sized, mode, n, slot, w, bits, symbol, c);
         let parts = parts_of(cell);
         firsts[c] = parts.first;
         seconds[c] = parts.second;
-    }
-}
-
-// The same where it has two.
-fn write_by_sizes(
-    mode: u8,
-    level: f32,
-    bits: &[u8],
-    symbol: usize,
-    firsts: &mut [f32],
-    seconds: &mut [f32],
-)
-    requires { ⌜ (symbolRule.fitting mode symbol (length (now bits)) (length (now firsts)) (length (now seconds)) ≡ true) × (partBits mode ≡ 2) ⌝ }
-    ensures { λ _. ⌜ Written mode level (now (bits .entry)) symbol (now (firsts .exit)) (now (seconds .exit)) ⌝ }
-{
-    let n = modes::slot_count(mode);
-    let slot = modes::slot_bits(mode);
-    let points = points();
-    let sized = sized(level);
-    for c in 0..4096 {
-        let cell = cell_by_sizes(&points, &sized, mode, n, slot, bits, symbol, c);
-        let point = parts_of(cell);
-        firsts[c] = point.first;
-        seconds[c] = point.second;
     }
 }
 
@@ -402,11 +300,7 @@ pub fn write_symbol(
     if !fitting(mode, symbol, bits.len(), firsts.len(), seconds.len()) {
         return false;
     }
-    if modes::part_bits(mode) == 1 {
-        write_by_signs(mode, level, bits, symbol, firsts, seconds);
-        return true;
-    }
-    write_by_sizes(mode, level, bits, symbol, firsts, seconds);
+    write_cells(mode, level, bits, symbol, firsts, seconds);
     true
 }
 
@@ -429,67 +323,6 @@ fn point_cell(places: &[u16], t: usize, i: usize) -> usize
     ensures { λ r. ⌜ (r ≡ rule.pointCell t i) × (r < 4096) ⌝ }
 {
     cell_of(interlace_of(t / 7, 1 + t % 7), place_of(places, i))
-}
-
-// The point that a cell holds.
-fn point_in(firsts: &[f32], seconds: &[f32], c: usize) -> Point
-    requires { ⌜ (c < length (now firsts)) × (c < length (now seconds)) ⌝ }
-    ensures { λ r. ⌜ (r .first ≡ getD (now (firsts .entry)) c zeroPart) × (r .second ≡ getD (now (seconds .entry)) c zeroPart) ⌝ }
-{
-    Point {
-        first: firsts[c],
-        second: seconds[c],
-    }
-}
-
-// A cell's decisions in one byte, where a part has one bit, and where it has two.
-fn byte_of_signs(p: Point) -> u8
-    ensures { λ r. ⌜ ((level : Float) → r ≡ cellByte 1 level (p .first) (p .second)) ⌝ }
-{
-    sign_of(p.first, 2) + 3 * sign_of(p.second, 2)
-}
-
-fn byte_of_sizes(level: f32, p: Point) -> u8
-    ensures { λ r. ⌜ r ≡ cellByte 2 level (p .first) (p .second) ⌝ }
-{
-    size_and_sign(level, p.first) + 5 * size_and_sign(level, p.second)
-}
-
-// What each cell decides to, in a byte each. Each of the two is a loop of its own, so that many cells are decided at a time.
-fn decide_signs(firsts: &[f32], seconds: &[f32], out: &mut [u8])
-    requires { ⌜ (length (now firsts) ≡ length (now out)) × (length (now seconds) ≡ length (now out)) ⌝ }
-    ensures { λ _. ⌜ ((level : Float) → Holds 0 (length (now (out .entry))) (byteOf 1 level (now (firsts .entry)) (now (seconds .entry))) (now (out .exit))) ⌝ }
-{
-    for c in 0..out.len() {
-        out[c] = byte_of_signs(point_in(firsts, seconds, c));
-    }
-}
-
-fn decide_sizes(level: f32, firsts: &[f32], seconds: &[f32], out: &mut [u8])
-    requires { ⌜ (length (now firsts) ≡ length (now out)) × (length (now seconds) ≡ length (now out)) ⌝ }
-    ensures { λ _. ⌜ Holds 0 (length (now (out .entry))) (byteOf 2 level (now (firsts .entry)) (now (seconds .entry))) (now (out .exit)) ⌝ }
-{
-    for c in 0..out.len() {
-        out[c] = byte_of_sizes(level, point_in(firsts, seconds, c));
-    }
-}
-
-// Answers whether the lists are of one length; else nothing is written.
-pub fn decide_cells(mode: u8, level: f32, firsts: &[f32], seconds: &[f32], out: &mut [u8]) -> bool
-    ensures { λ r. ⌜ DecideRule mode level (now (firsts .entry)) (now (seconds .entry)) (now (out .entry)) (now (out .exit)) r ⌝ }
-{
-    if firsts.len() != out.len() {
-        return false;
-    }
-    if seconds.len() != out.len() {
-        return false;
-    }
-    if modes::part_bits(mode) == 1 {
-        decide_signs(firsts, seconds, out);
-        return true;
-    }
-    decide_sizes(level, firsts, seconds, out);
-    true
 }
 
 // The bytes of block slot t's points, from those of the grid's cells.

@@ -14,7 +14,7 @@ use Rattle.rules.specs.Pieces.{seen, cellIn, byteAt, fedCell, Put}
 use Rattle.rules.specs.declared.Profile.{Profile}
 use Rattle.laws.specs.Holds.{Holds}
 use Rattle.laws.specs.Parts.{putPart, put-long, put-before, put-in, put-after}
-use Rattle.cells.specs.Reading.{DecideRule}
+use Rattle.deciding.specs.Deciding.{DecideRule}
 use Rattle.receiving.proofs.Fed.{fed-before, fed-in, fed-after}
 
 -- what deciding leaves in a list that is as long as the piece's two

@@ -132,7 +132,7 @@ pub(crate) fn put(p: Profile, state: &mut [u8], firsts: &[f32], seconds: &[f32])
 {
     let from = seen(state);
     let end = from + firsts.len();
-    cells::decide_cells(
+    deciding::decide_cells(
         p.mode,
         p.level,
         firsts,

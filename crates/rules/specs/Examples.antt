@@ -13,11 +13,13 @@ use Rattle.rules.specs.Interleaver.{tableD, address, bitInterleaved}
 use Rattle.rules.specs.Turbo.{y0}
 use Rattle.rules.specs.Modes.{isMode, partBits, slotBits, packetBits, slots, symbols}
 use Rattle.rules.specs.Slots.{scrambling, symbolOf, slotNumber}
-use Rattle.rules.specs.Points.{triple, pointOf, decide, bitIn}
+use Rattle.rules.specs.Points.{triple, pointOf, firstPart, secondPart, decide, bitIn}
 use Rattle.rules.specs.Cells.{placeOf, pointAt, cellOf}
 use Rattle.rules.specs.Profile.{fault, reading, written}
+use Rattle.rules.specs.Block.{cellFor}
 use Rattle.rules.specs.Compare.{grids, differing, difference, filled, comparingNumber}
 use Rattle.rules.specs.declared.Profile.{Profile}
+use Rattle.rules.specs.declared.Carried.the-variants.{PointOf}
 
 -- f 0, .., f (n - 1)
 abbrev pub firstOf : ℕ → (ℕ → ℕ) → List ℕ
@@ -76,6 +78,12 @@ abbrev pub mapped : ℕ → List ℕ
 mapped n =
     let p = pointOf 2 (ofBits binary32 a1) (λ j. n / 2 ^ j % 2) in
     toBits binary32 (p .second) ∷ toBits binary32 (p .first) ∷ []
+
+-- the two parts of point 1 of block slot 2, where of all bits only bit b of that slot is 1
+abbrev pub carrying : ℕ → ℕ → List ℕ
+carrying w b =
+    let c = cellFor w (ofBits binary32 a1) (λ t i. pick (eqb t 2) (only b i) 0) (PointOf 2 1) in
+    toBits binary32 (firstPart c) ∷ toBits binary32 (secondPart c) ∷ []
 
 -- what a part of 16QAM, given by its bits, decides to at level 1.5, whose lines are at 3.0 and -3.0
 abbrev pub decided : ℕ → ℕ
@@ -190,6 +198,9 @@ examples =
     ∷ record { given = mapped 0b0100 ++ mapped 0b0101 ++ mapped 0b0111 ++ mapped 0b0110; said = a1 ∷ a3 ∷ a1 ∷ a1 ∷ a1 ∷ n1 ∷ a1 ∷ n3 ∷ [] }
     ∷ record { given = mapped 0b1100 ++ mapped 0b1101 ++ mapped 0b1111 ++ mapped 0b1110; said = n1 ∷ a3 ∷ n1 ∷ a1 ∷ n1 ∷ n1 ∷ n1 ∷ n3 ∷ [] }
     ∷ record { given = mapped 0b1000 ++ mapped 0b1001 ++ mapped 0b1011 ++ mapped 0b1010; said = n3 ∷ a3 ∷ n3 ∷ a1 ∷ n3 ∷ n1 ∷ n3 ∷ n3 ∷ [] }
+    -- Req 06 slot bits 4i to 4i + 3 are s0 to s3 of point i, and of QPSK 2i and 2i + 1 are s0 and s1
+    ∷ record { given = carrying 2 4 ++ carrying 2 5 ++ carrying 2 6 ++ carrying 2 7; said = a1 ∷ a3 ∷ n3 ∷ a3 ∷ a3 ∷ a1 ∷ a3 ∷ n3 ∷ [] }
+    ∷ record { given = carrying 1 2 ++ carrying 1 3; said = n1 ∷ a1 ∷ a1 ∷ n1 ∷ [] }
     -- Req 06 the outer level is rounded once, to even at a tie; that of the largest level with a finite triple, and of the next one
     ∷ record {
       given = toBits binary32 (triple (ofBits binary32 0x3F80_0001))

@@ -1,87 +1,61 @@
 -- `cells::point_of` meets its contract: the level that a table shows is the one that it was made for.
-use mathlib.Core.Path.{refl, _∙_, ap}
-use mathlib.Core.List.{[], _∷_}
+use mathlib.Core.Path.{_∙_, ap, ap₂}
+use Prim.Native.Nat.{ℕ, _+_}
 use native.Mathlib.Omega.{arith}
 use lib.Ieee.{Float}
 use Rattle.rules.specs.Bits.{row}
-use Rattle.rules.specs.Modes.{partBits}
 use Rattle.rules.specs.Points.{pointOf}
-use Rattle.cells.proofs.Signs.{signed-level, signed-own, sized-level, sized-own, point-of-two, point-of-four}
+use Rattle.modes.proofs.Figures.{part-bounds}
+use Rattle.cells.specs.Symbol.{levelOf}
+use Rattle.cells.proofs.Signs.{signed-level, signed-own, sized-by, point-same}
 use borrow.Author.Needs.{needs}
 use Rattle.cells.proofs.point_of.Statement.{statement}
 use Rattle.cells.proofs.point_of.Tie as tie
 
-part-bits-requires : tie.Need-part-bits-requires
-part-bits-requires c κs = search needs
-
 signed-requires : tie.Need-signed-requires
 signed-requires c κs = search needs
-
-slice-aggregate-point-by-signs : tie.Need-slice-aggregate-point-by-signs
-slice-aggregate-point-by-signs c = search needs
-
-array-read-point-by-signs : tie.Need-array-read-point-by-signs
-array-read-point-by-signs c = search needs
-
-array-read-point-by-signs-2 : tie.Need-array-read-point-by-signs-2
-array-read-point-by-signs-2 c = search needs
-
-point-by-signs-requires : tie.Need-point-by-signs-requires
-point-by-signs-requires c κs = signed-own (c .before .before .before .before .args .level) (c .before .signed .ensures)
-
-returns : tie.Need-returns
-returns c =
-    let a = c .before .before .before .before .before .args in
-    let s = row (a .t3) in
-    c .point-by-signs .ensures
-    ∙ ap (λ (x : Float). pointOf 1 x (row (s 0 ∷ s 1 ∷ []))) (signed-level (a .level) (c .before .before .signed .ensures))
-    ∙ point-of-two (partBits (a .mode)) (a .level) s (s 0) (s 1) (omega arith) refl refl
 
 sized-requires : tie.Need-sized-requires
 sized-requires c κs = search needs
 
-slice-aggregate-point-by-sizes : tie.Need-slice-aggregate-point-by-sizes
-slice-aggregate-point-by-sizes c = search needs
+slice-aggregate-point-by : tie.Need-slice-aggregate-point-by
+slice-aggregate-point-by c = search needs
 
-array-read-point-by-sizes : tie.Need-array-read-point-by-sizes
-array-read-point-by-sizes c = search needs
+slice-aggregate-point-by-2 : tie.Need-slice-aggregate-point-by-2
+slice-aggregate-point-by-2 c = search needs
 
-array-read-point-by-sizes-2 : tie.Need-array-read-point-by-sizes-2
-array-read-point-by-sizes-2 c = search needs
+part-bits-requires : tie.Need-part-bits-requires
+part-bits-requires c κs = search needs
 
-array-read-point-by-sizes-3 : tie.Need-array-read-point-by-sizes-3
-array-read-point-by-sizes-3 c = search needs
+slice-aggregate-point-by-3 : tie.Need-slice-aggregate-point-by-3
+slice-aggregate-point-by-3 c = search needs
 
-array-read-point-by-sizes-4 : tie.Need-array-read-point-by-sizes-4
-array-read-point-by-sizes-4 c = search needs
+point-by-requires : tie.Need-point-by-requires
+point-by-requires c κs =
+    let sized = c .before .before .before .before in
+    let a = sized .before .before .args in
+    let made = sized .before .signed .ensures in
+    let few = part-bounds (a .mode) in
+    (signed-own (a .level) made, sized-by (a .level) made (sized .sized .ensures), omega (arith, few), omega (arith, few), omega (arith, few))
 
-point-by-sizes-requires : tie.Need-point-by-sizes-requires
-point-by-sizes-requires c κs = sized-own (c .before .before .before .before .args .level) (c .before .sized .ensures)
-
-returns-2 : tie.Need-returns-2
-returns-2 c =
-    let a = c .before .before .before .before .before .args in
-    let s = row (a .t3) in
-    c .point-by-sizes .ensures
-    ∙ ap (λ (x : Float). pointOf 2 x (row (s 0 ∷ s 1 ∷ s 2 ∷ s 3 ∷ []))) (sized-level (a .level) (c .before .before .sized .ensures))
-    ∙ point-of-four (partBits (a .mode)) (a .level) s (s 0) (s 1) (s 2) (s 3) (omega arith) refl refl refl refl
+returns : tie.Need-returns
+returns c =
+    let signed = c .before .before .before .before .before .before in
+    let a = signed .before .args in
+    let w = c .before .before .part-bits .result in
+    c .point-by .ensures
+    ∙ point-same w (levelOf (signed .signed .result)) (λ j. row (a .t3) (0 + j)) (row (a .t3)) (λ j. ap (row (a .t3)) (omega arith))
+    ∙ ap₂ (λ (w : ℕ) (x : Float). pointOf w x (row (a .t3))) (c .before .before .part-bits .ensures .0) (signed-level (a .level) (signed .signed .ensures))
 
 pub point-of-spec : {M : Type 1} → statement M
 point-of-spec =
     tie.close
     (tie.spec
-    part-bits-requires
     signed-requires
-    slice-aggregate-point-by-signs
-    array-read-point-by-signs
-    array-read-point-by-signs-2
-    point-by-signs-requires
-    returns
     sized-requires
-    slice-aggregate-point-by-sizes
-    array-read-point-by-sizes
-    array-read-point-by-sizes-2
-    array-read-point-by-sizes-3
-    array-read-point-by-sizes-4
-    point-by-sizes-requires
-    returns-2)
+    slice-aggregate-point-by
+    slice-aggregate-point-by-2
+    part-bits-requires
+    slice-aggregate-point-by-3
+    point-by-requires
+    returns)

@@ -1,4 +1,4 @@
--- `cells::write_by_signs` meets its contract. The loop's invariant: each of the two lists has the parts of the cells before c.
+-- `cells::write_cells` meets its contract. The loop's invariant: each of the two lists has the parts of the cells before c.
 use mathlib.Core.Path.{_≡_, refl, sym, _∙_, ap}
 use Prim.Native.Nat.{_-_, _≤_}
 use native.Mathlib.Omega.{arith}
@@ -9,20 +9,20 @@ use Rattle.laws.specs.Holds.{Holds}
 use Rattle.laws.specs.Filled.{upTo, holds-first, holds-next, holds-whole}
 use Rattle.cells.specs.Symbol.{symbolCell}
 use Rattle.cells.proofs.Reading.{slots-lt}
-use Rattle.cells.proofs.Signs.{signed-level, signed-own}
+use Rattle.cells.proofs.Signs.{signed-level, signed-own, sized-by}
 use Rattle.cells.proofs.Fits.{Fits, fits}
 use borrow.Author.Needs.{needs}
-use Rattle.cells.proofs.write_by_signs.Statement.{statement}
-use Rattle.cells.proofs.write_by_signs.Tie as tie
+use Rattle.cells.proofs.write_cells.Statement.{statement}
+use Rattle.cells.proofs.write_cells.Tie as tie
 
 abbrev Inv-loop : tie.InvT-loop
-Inv-loop mode level bits symbol firsts₀ seconds₀ n slot points signed c₀ firsts seconds c =
+Inv-loop mode level bits symbol firsts₀ seconds₀ n slot w points signed sized c₀ firsts seconds c =
     (c ≤ 4096)
     × Holds zeroPart 4096 (upTo c (λ k. firstPart (symbolCell mode level bits symbol k)) (λ k. getD firsts₀ k zeroPart)) firsts
     × Holds zeroPart 4096 (upTo c (λ k. secondPart (symbolCell mode level bits symbol k)) (λ k. getD seconds₀ k zeroPart)) seconds
 
 abbrev μ-loop : tie.MeasureT-loop
-μ-loop mode level bits symbol firsts₀ seconds₀ n slot points signed c₀ firsts seconds c = 4096 - c
+μ-loop mode level bits symbol firsts₀ seconds₀ n slot w points signed sized c₀ firsts seconds c = 4096 - c
 
 slot-count-requires : tie.Need-slot-count-requires Inv-loop μ-loop
 slot-count-requires c κs = tt
@@ -30,19 +30,25 @@ slot-count-requires c κs = tt
 slot-bits-requires : tie.Need-slot-bits-requires Inv-loop μ-loop
 slot-bits-requires c κs = tt
 
+part-bits-requires : tie.Need-part-bits-requires Inv-loop μ-loop
+part-bits-requires c κs = tt
+
 points-requires : tie.Need-points-requires Inv-loop μ-loop
 points-requires c κs = tt
 
 signed-requires : tie.Need-signed-requires Inv-loop μ-loop
 signed-requires c κs = tt
 
--- the call's start, and what was asked there: the symbol can be written
-abbrev start : tie.After-signed Inv-loop μ-loop → tie.Start Inv-loop μ-loop
-start c = c .before .before .before .before .before .before .before
+sized-requires : tie.Need-sized-requires Inv-loop μ-loop
+sized-requires c κs = tt
 
-passed : (c : tie.After-signed Inv-loop μ-loop)
+-- the call's start, and what was asked there: the symbol can be written
+abbrev start : tie.After-sized Inv-loop μ-loop → tie.Start Inv-loop μ-loop
+start c = c .before .before .before .before .before .before .before .before .before
+
+passed : (c : tie.After-sized Inv-loop μ-loop)
     → (let a = start c .args in Fits (a .mode) (a .symbol) (length (a .bits .now)) (length (a .firsts .now)) (length (a .seconds .now)))
-passed c = fits _ _ _ _ _ (start c .pre .0)
+passed c = fits _ _ _ _ _ (start c .pre)
 
 loop-holds : tie.Need-loop-holds Inv-loop μ-loop
 loop-holds c = (
@@ -51,21 +57,26 @@ loop-holds c = (
   holds-first _ _ zeroPart (record { long = passed c .seconds-long; each = λ k l. refl }),
 )
 
-slice-aggregate-cell-by-signs : tie.Need-slice-aggregate-cell-by-signs Inv-loop μ-loop
-slice-aggregate-cell-by-signs c = search needs
+slice-aggregate-cell-by : tie.Need-slice-aggregate-cell-by Inv-loop μ-loop
+slice-aggregate-cell-by c = search needs
 
-slice-aggregate-cell-by-signs-2 : tie.Need-slice-aggregate-cell-by-signs-2 Inv-loop μ-loop
-slice-aggregate-cell-by-signs-2 c = search needs
+slice-aggregate-cell-by-2 : tie.Need-slice-aggregate-cell-by-2 Inv-loop μ-loop
+slice-aggregate-cell-by-2 c = search needs
 
-cell-by-signs-requires : tie.Need-cell-by-signs-requires Inv-loop μ-loop
-cell-by-signs-requires c κs =
-    let p = c .before .before .before .before in
-    let ok = passed p in (
-      p .before .points .ensures,
-      signed-own (start p .args .level) (p .signed .ensures),
-      start p .pre .1,
-      p .before .before .before .slot-count .ensures .0,
-      p .before .before .slot-bits .ensures .0,
+slice-aggregate-cell-by-3 : tie.Need-slice-aggregate-cell-by-3 Inv-loop μ-loop
+slice-aggregate-cell-by-3 c = search needs
+
+cell-by-requires : tie.Need-cell-by-requires Inv-loop μ-loop
+cell-by-requires c κs =
+    let p = c .before .before .before .before .before in
+    let ok = passed p in
+    let made = p .before .signed .ensures in (
+      p .before .before .points .ensures,
+      signed-own (start p .args .level) made,
+      sized-by (start p .args .level) made (p .sized .ensures),
+      p .before .before .before .before .before .slot-count .ensures .0,
+      p .before .before .before .before .slot-bits .ensures .0,
+      p .before .before .before .part-bits .ensures .0,
       omega (arith, ok .in-grid, slots-lt (start p .args .mode)),
       ok .bits-long,
     )
@@ -93,11 +104,11 @@ loop-less c = omega arith
 
 loop-again : tie.Need-loop-again Inv-loop μ-loop
 loop-again c =
-    let l = c .before .before .before .before .before in
+    let l = c .before .before .before .before .before .before in
     let a = start (l .before) .args in
-    let e : c .before .cell-by-signs .result ≡ symbolCell (a .mode) (a .level) (a .bits .now) (a .symbol) (l .loop .c) =
-    c .before .cell-by-signs .ensures
-    ∙ ap (λ (x : Float). symbolCell (a .mode) x (a .bits .now) (a .symbol) (l .loop .c)) (signed-level (a .level) (l .before .signed .ensures)) in
+    let e : c .before .cell-by .result ≡ symbolCell (a .mode) (a .level) (a .bits .now) (a .symbol) (l .loop .c) =
+    c .before .cell-by .ensures
+    ∙ ap (λ (x : Float). symbolCell (a .mode) x (a .bits .now) (a .symbol) (l .loop .c)) (signed-level (a .level) (l .before .before .signed .ensures)) in
     let inv = l .loop .inv in (
       omega arith,
       holds-next _ _ zeroPart _ _ (omega arith) (c .parts-of .ensures .0 ∙ ap firstPart e) (inv .1),
@@ -115,20 +126,23 @@ returns c =
     let inv = c .before .loop .inv in
     record { firsts-are = holds-whole _ _ zeroPart _ (omega arith) (inv .1); seconds-are = holds-whole _ _ zeroPart _ (omega arith) (inv .2) }
 
-pub write-by-signs-spec : {M : Type 1} → statement M
-write-by-signs-spec =
+pub write-cells-spec : {M : Type 1} → statement M
+write-cells-spec =
     tie.close
     (tie.spec
     Inv-loop
     μ-loop
     slot-count-requires
     slot-bits-requires
+    part-bits-requires
     points-requires
     signed-requires
+    sized-requires
     loop-holds
-    slice-aggregate-cell-by-signs
-    slice-aggregate-cell-by-signs-2
-    cell-by-signs-requires
+    slice-aggregate-cell-by
+    slice-aggregate-cell-by-2
+    slice-aggregate-cell-by-3
+    cell-by-requires
     parts-of-requires
     mul-firsts
     slice-write-firsts

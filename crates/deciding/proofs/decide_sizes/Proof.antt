@@ -1,4 +1,4 @@
--- `cells::decide_sizes` meets its contract. The loop's invariant: the bytes of the cells before c are in.
+-- `deciding::decide_sizes` meets its contract. The loop's invariant: the bytes of the cells before c are in.
 use mathlib.Core.Path.{_∙_, ap₂}
 use Prim.Native.Nat.{_-_, _≤_}
 use native.Mathlib.Omega.{arith}
@@ -7,10 +7,10 @@ use Rattle.rules.specs.Bits.{row}
 use Rattle.rules.specs.Pieces.{cellByte}
 use Rattle.laws.specs.Holds.{Holds, holds-self}
 use Rattle.laws.specs.Filled.{upTo, holds-first, holds-next, holds-whole}
-use Rattle.cells.specs.Reading.{byteOf}
+use Rattle.deciding.specs.Deciding.{byteOf}
 use borrow.Author.Needs.{needs}
-use Rattle.cells.proofs.decide_sizes.Statement.{statement}
-use Rattle.cells.proofs.decide_sizes.Tie as tie
+use Rattle.deciding.proofs.decide_sizes.Statement.{statement}
+use Rattle.deciding.proofs.decide_sizes.Tie as tie
 
 abbrev Inv-loop : tie.InvT-loop
 Inv-loop level firsts seconds out₀ c₀ c-end out c =

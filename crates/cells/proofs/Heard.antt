@@ -1,19 +1,19 @@
--- Decisions as the code makes them. What is sent at a level decides to the bits that were sent; a block's own cells are all that is heard.
-use mathlib.Core.Path.{_≡_, refl, sym, _∙_, ap, ap₂}
-use mathlib.Core.Bool.{Bool, true, false, _&&_, _||_}
+-- What is sent at a level decides to the bits that were sent; a block's own cells are all that is heard.
+use mathlib.Core.Path.{_≡_, _∙_, ap, ap₂}
+use mathlib.Core.Bool.{Bool, true, false}
 use mathlib.Core.List.{List}
-use Prim.Native.Nat.{ℕ, _+_, _*_, _/_, _%_, _^_, _<_, _≤_}
+use Prim.Native.Nat.{ℕ, _+_, _*_, _/_, _%_, _^_, _<_}
 use native.Mathlib.Decide.{ℕ-discrete}
 use native.Mathlib.Nat.{div-add-mod, mod-lt}
 use native.Mathlib.Omega.{arith}
-use lib.Dec.{eqb, ltb}
-use lib.Ieee.{Float, neg, lt}
+use lib.Dec.{eqb}
+use lib.Ieee.{Float}
 use lib.ListN.{getD}
-use borrow.Author.Tests.{lt-ltb, le-ltb, eq-eqb, ne-eqb}
+use borrow.Author.Tests.{eq-eqb, ne-eqb}
 use Rattle.rules.specs.Bits.{pick, bitOf}
 use Rattle.rules.specs.Modes.{partBits, slots, slotBits}
 use Rattle.rules.specs.Slots.{symbolOf}
-use Rattle.rules.specs.Points.{zeroPart, twice, part, firstPart, secondPart, doubtful, signOf, sizeOf, sizeAndSign, decide, bitIn}
+use Rattle.rules.specs.Points.{zeroPart, part, firstPart, secondPart, doubtful, decide, bitIn}
 use Rattle.rules.specs.Cells.{pointCell, gridCell, carried}
 use Rattle.rules.specs.Block.{cellFor, heard, partOf}
 use Rattle.rules.specs.declared.Profile.{Profile}
@@ -22,45 +22,8 @@ use Rattle.rules.specs.declared.Carried.{Carried}
 use Rattle.rules.specs.declared.Carried.the-variants.{PointOf}
 use Rattle.laws.specs.Levels.{Good, decide-part}
 use Rattle.modes.proofs.Figures.{figures, part-bounds}
-use Rattle.cells.specs.Reading.{signOr}
 use Rattle.cells.proofs.Inverse.{carried-cell}
 use Rattle.cells.proofs.Reading.{point-of-bit}
-
--- ---- one part
-
--- of one bit a part's decision is its sign
-pub decide-one : (w : ℕ) (level a : Float) → w ≡ 1 → signOr 2 a ≡ decide w level a
-unfolding decide signOf
-decide-one w level a e = rw e
-
-module _ (level a : Float) where
-  -- twice the size, and the sign with 4 for a doubtful one
-  abbrev sum : ℕ
-  sum = 2 * sizeOf level a + signOr 4 a
-
-  number : pick (ltb 4 sum) 4 sum ≡ decide 2 level a
-  unfolding decide sizeOf signOf
-  number =
-      go (lt (twice level) a || lt a (neg (twice level))) (lt (neg (twice level)) a && lt a (twice level)) (lt zeroPart a) (lt a zeroPart)
-    where
-      go : (p q r s : Bool)
-          → (let n = 2 * pick p 0 (pick q 1 2) + pick r 0 (pick s 1 4) in pick (ltb 4 n) 4 n)
-          ≡ sizeAndSign (pick p 0 (pick q 1 2)) (pick r 0 (pick s 1 2))
-      go true q true s = refl
-      go true q false true = refl
-      go true q false false = refl
-      go false true true s = refl
-      go false true false true = refl
-      go false true false false = refl
-      go false false true s = refl
-      go false false false true = refl
-      go false false false false = refl
-
-  pub decide-sum : sum ≤ 4 → sum ≡ decide 2 level a
-  decide-sum h = sym (ap (λ (b : Bool). pick b 4 sum) (le-ltb 4 sum h)) ∙ number
-
-  pub decide-over : 4 < sum → 4 ≡ decide 2 level a
-  decide-over h = sym (ap (λ (b : Bool). pick b 4 sum) (lt-ltb 4 sum h)) ∙ number
 
 -- a bit is decided to 0 or 1, or is doubtful
 pub bit-in-lt : (w d j : ℕ) → bitIn w d j < 3
@@ -69,8 +32,6 @@ bit-in-lt w d j = go (eqb d (2 ^ w))
     go : (b : Bool) → pick b doubtful (bitOf w d j) < 3
     go true = omega arith
     go false = omega arith
-
--- ---- the block
 
 pub heard-lt : (P : Profile) (f s : List Float) (t i : ℕ) → heard P f s t i < 3
 unfolding heard

@@ -1,8 +1,8 @@
--- `cells::size_of` meets its contract, by the four tests.
+-- `deciding::size_of` meets its contract, by the four tests.
 use native.Mathlib.Omega.{arith}
 use Rattle.rules.specs.Points.{twice, sizeOf}
-use Rattle.cells.proofs.size_of.Statement.{statement}
-use Rattle.cells.proofs.size_of.Tie as tie
+use Rattle.deciding.proofs.size_of.Statement.{statement}
+use Rattle.deciding.proofs.size_of.Tie as tie
 
 returns : tie.Need-returns
 unfolding sizeOf twice

@@ -1,10 +1,10 @@
--- `cells::point_in` meets its contract: what is read within a list goes by no default.
+-- `deciding::point_in` meets its contract: what is read within a list goes by no default.
 use lib.Ieee.{nan}
 use borrow.Author.Needs.{needs}
 use Rattle.rules.specs.Points.{zeroPart}
 use Rattle.laws.specs.Lists.{any-default}
-use Rattle.cells.proofs.point_in.Statement.{statement}
-use Rattle.cells.proofs.point_in.Tie as tie
+use Rattle.deciding.proofs.point_in.Statement.{statement}
+use Rattle.deciding.proofs.point_in.Tie as tie
 
 mul-t4 : tie.Need-mul-t4
 mul-t4 c = search needs

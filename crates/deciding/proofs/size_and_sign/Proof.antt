@@ -1,13 +1,13 @@
--- `cells::size_and_sign` meets its contract: the sum is the number, or more than 4.
+-- `deciding::size_and_sign` meets its contract: the sum is the number, or more than 4.
 use mathlib.Core.Path.{_≡_, ap₂, subst, _∙_}
 use Prim.Native.Nat.{ℕ, _+_, _*_, _<_, _≤_}
 use native.Mathlib.Omega.{arith}
 use Rattle.rules.specs.Points.{sizeOf}
-use Rattle.cells.specs.Reading.{signOr}
-use Rattle.cells.proofs.Deciding.{decide-sum, decide-over}
+use Rattle.deciding.specs.Deciding.{signOr}
+use Rattle.deciding.proofs.Deciding.{decide-sum, decide-over}
 use borrow.Author.Needs.{needs}
-use Rattle.cells.proofs.size_and_sign.Statement.{statement}
-use Rattle.cells.proofs.size_and_sign.Tie as tie
+use Rattle.deciding.proofs.size_and_sign.Statement.{statement}
+use Rattle.deciding.proofs.size_and_sign.Tie as tie
 
 size-of-requires : tie.Need-size-of-requires
 size-of-requires c κs = search needs

@@ -1,10 +1,10 @@
--- `cells::byte_of_signs` meets its contract: of one bit a part's decision is its sign, at every level.
+-- `deciding::byte_of_signs` meets its contract: of one bit a part's decision is its sign, at every level.
 use mathlib.Core.Path.{refl, _∙_, ap₂}
 use Prim.Native.Nat.{ℕ, _+_, _*_}
-use Rattle.cells.proofs.Deciding.{decide-one}
+use Rattle.deciding.proofs.Deciding.{decide-one}
 use borrow.Author.Needs.{needs}
-use Rattle.cells.proofs.byte_of_signs.Statement.{statement}
-use Rattle.cells.proofs.byte_of_signs.Tie as tie
+use Rattle.deciding.proofs.byte_of_signs.Statement.{statement}
+use Rattle.deciding.proofs.byte_of_signs.Tie as tie
 
 sign-of-requires : tie.Need-sign-of-requires
 sign-of-requires c κs = search needs

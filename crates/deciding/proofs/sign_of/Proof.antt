@@ -1,7 +1,7 @@
--- `cells::sign_of` meets its contract, by the two tests.
+-- `deciding::sign_of` meets its contract, by the two tests.
 use native.Mathlib.Omega.{arith}
-use Rattle.cells.proofs.sign_of.Statement.{statement}
-use Rattle.cells.proofs.sign_of.Tie as tie
+use Rattle.deciding.proofs.sign_of.Statement.{statement}
+use Rattle.deciding.proofs.sign_of.Tie as tie
 
 returns : tie.Need-returns
 returns c = (simp (c .if1 .taken), omega arith)

@@ -1,13 +1,13 @@
--- `cells::decide` meets its contract, by the number of bits that a part has.
+-- `deciding::decide` meets its contract, by the number of bits that a part has.
 use mathlib.Core.Path.{_≡_, _∙_, ap}
 use Prim.Native.Nat.{ℕ}
 use native.Mathlib.Omega.{arith}
 use Rattle.rules.specs.Modes.{partBits}
 use Rattle.rules.specs.Points as points
-use Rattle.cells.proofs.Deciding.{decide-one}
+use Rattle.deciding.proofs.Deciding.{decide-one}
 use borrow.Author.Needs.{needs}
-use Rattle.cells.proofs.decide.Statement.{statement}
-use Rattle.cells.proofs.decide.Tie as tie
+use Rattle.deciding.proofs.decide.Statement.{statement}
+use Rattle.deciding.proofs.decide.Tie as tie
 
 part-bits-requires : tie.Need-part-bits-requires
 part-bits-requires c κs = search needs

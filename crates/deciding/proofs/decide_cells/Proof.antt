@@ -1,4 +1,4 @@
--- `cells::decide_cells` meets its contract, by the number of bits that a part has.
+-- `deciding::decide_cells` meets its contract, by the number of bits that a part has.
 use mathlib.Core.Path.{_≡_, refl, sym, ap}
 use mathlib.Core.Bool.{true≢false}
 use Prim.Native.Nat.{ℕ}
@@ -6,10 +6,10 @@ use native.Mathlib.Omega.{arith}
 use borrow.Author.Tests.{eq-eqb, ne-eqb}
 use Rattle.rules.specs.Modes.{partBits}
 use Rattle.laws.specs.Holds.{holds-as}
-use Rattle.cells.specs.Reading.{byteOf, decidedByte}
+use Rattle.deciding.specs.Deciding.{byteOf, decidedByte}
 use borrow.Author.Needs.{needs}
-use Rattle.cells.proofs.decide_cells.Statement.{statement}
-use Rattle.cells.proofs.decide_cells.Tie as tie
+use Rattle.deciding.proofs.decide_cells.Statement.{statement}
+use Rattle.deciding.proofs.decide_cells.Tie as tie
 
 returns : tie.Need-returns
 returns c =

@@ -1,0 +1,44 @@
+-- Decisions as the code makes them.
+use mathlib.Core.Path.{_≡_, refl, sym, _∙_, ap}
+use mathlib.Core.Bool.{Bool, true, false, _&&_, _||_}
+use Prim.Native.Nat.{ℕ, _+_, _*_, _<_, _≤_}
+use lib.Dec.{ltb}
+use lib.Ieee.{Float, neg, lt}
+use borrow.Author.Tests.{lt-ltb, le-ltb}
+use Rattle.rules.specs.Bits.{pick}
+use Rattle.rules.specs.Points.{zeroPart, twice, signOf, sizeOf, sizeAndSign, decide}
+use Rattle.deciding.specs.Deciding.{signOr}
+
+-- of one bit a part's decision is its sign
+pub decide-one : (w : ℕ) (level a : Float) → w ≡ 1 → signOr 2 a ≡ decide w level a
+unfolding decide signOf
+decide-one w level a e = rw e
+
+module _ (level a : Float) where
+  -- twice the size, and the sign with 4 for a doubtful one
+  abbrev sum : ℕ
+  sum = 2 * sizeOf level a + signOr 4 a
+
+  number : pick (ltb 4 sum) 4 sum ≡ decide 2 level a
+  unfolding decide sizeOf signOf
+  number =
+      go (lt (twice level) a || lt a (neg (twice level))) (lt (neg (twice level)) a && lt a (twice level)) (lt zeroPart a) (lt a zeroPart)
+    where
+      go : (p q r s : Bool)
+          → (let n = 2 * pick p 0 (pick q 1 2) + pick r 0 (pick s 1 4) in pick (ltb 4 n) 4 n)
+          ≡ sizeAndSign (pick p 0 (pick q 1 2)) (pick r 0 (pick s 1 2))
+      go true q true s = refl
+      go true q false true = refl
+      go true q false false = refl
+      go false true true s = refl
+      go false true false true = refl
+      go false true false false = refl
+      go false false true s = refl
+      go false false false true = refl
+      go false false false false = refl
+
+  pub decide-sum : sum ≤ 4 → sum ≡ decide 2 level a
+  decide-sum h = sym (ap (λ (b : Bool). pick b 4 sum) (le-ltb 4 sum h)) ∙ number
+
+  pub decide-over : 4 < sum → 4 ≡ decide 2 level a
+  decide-over h = sym (ap (λ (b : Bool). pick b 4 sum) (lt-ltb 4 sum h)) ∙ number
