@@ -14,7 +14,7 @@ use Rattle.rules.specs.Block.{Cells, sentBit, sentCell, heard}
 use Rattle.rules.specs.Demands.{heardInPlace, sentInPlace}
 use Rattle.rules.specs.declared.Profile.{Profile}
 use Rattle.cells.proofs.Inverse.{point-cell-lt}
-use Rattle.cells.proofs.Heard.{heard-sent}
+use Rattle.hearing.proofs.Heard.{heard-sent}
 use Rattle.modes.proofs.Figures.{in-block, in-slot}
 use Rattle.profile.proofs.InRange.{good-level}
 

@@ -25,7 +25,7 @@ use Rattle.packet.proofs.Bits.{packet-bit-lt}
 use Rattle.turbo.proofs.Modes.{coded-bit}
 use Rattle.turbo.proofs.Accepted.{accepted-coded, coded-accepted}
 use Rattle.slots.proofs.Twice.{scrambling-lt, unscrambled-bit, unscrambled-twice}
-use Rattle.cells.proofs.Heard.{heard-lt}
+use Rattle.hearing.proofs.Heard.{heard-lt}
 use Rattle.block.proofs.Passed.{early-right}
 
 -- with a profile in its range, and rooms of the right lengths, receiving judges

@@ -1,5 +1,4 @@
 pub mod Inverse
 pub mod Signs
-pub mod Reading
-pub mod Heard
+pub mod Within
 pub mod Fits

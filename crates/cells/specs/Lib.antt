@@ -1,3 +1,2 @@
 pub mod Spot
 pub mod Symbol
-pub mod Reading

@@ -1,20 +1,11 @@
 -- What the crate's own functions answer: a field by its number, what its header says, what stands after the last field.
-use mathlib.Core.Bool.{Bool, not, _&&_}
-use mathlib.Core.List.{List, [], _∷_}
-use Prim.Native.Nat.{ℕ, suc, _+_, _*_}
-use lib.Dec.{eqb, leb, ltb}
+use mathlib.Core.Bool.{not}
+use mathlib.Core.List.{List, []}
+use Prim.Native.Nat.{ℕ, _+_, _*_}
+use lib.Dec.{eqb, ltb}
 use lib.ListN.{length, getD}
 use Rattle.rules.specs.Bits.{pick, row}
 use Rattle.rules.specs.Profile.{Field, fields, noMore}
-
--- from low to high - 1
-abbrev pub between : ℕ → ℕ → ℕ → Bool
-between low high x = leb low x && ltb x high
-
--- how many numbers stand before the first that fails a test; all of them where none does
-abbrev pub passing : (ℕ → Bool) → List ℕ → ℕ
-passing f [] = 0
-passing f (x ∷ xs) = pick (f x) (suc (passing f xs)) 0
 
 -- how many fields there are
 abbrev pub many : ℕ

@@ -5,8 +5,8 @@ ghost use lib.ListN.{length};
 ghost use lib.Seq.{sets};
 ghost use Rattle.rules.specs.Profile.{faultOf};
 ghost use Rattle.profile.specs.Fields.{field, many};
+use super::faults;
 use super::numbers;
-use super::ranges;
 use rules::Answer;
 use rules::Profile;
 
@@ -34,14 +34,14 @@ pub(crate) fn fault(i: usize, at: usize, p: Profile) -> Answer
     match i {
         0 => {
             let masks = p.masks;
-            ranges::masks_fault(40, at + 3, masks)
+            faults::several(40, at + 3, ranges::masks_passing(masks), 8)
         }
-        1 => ranges::single(ranges::level_good(p.level), 41, at + 3),
-        2 => ranges::mode_fault(at + 3, p.mode, p.level),
-        3 => ranges::single(ranges::k_good(p.k), 43, at + 3),
+        1 => faults::single(ranges::level_good(p.level), 41, at + 3),
+        2 => faults::mode_fault(at + 3, p.mode, p.level),
+        3 => faults::single(ranges::k_good(p.k), 43, at + 3),
         _ => {
             let seeds = p.seeds;
-            ranges::seeds_fault(44, at + 3, p.mode, seeds)
+            faults::several(44, at + 3, ranges::seeds_passing(p.mode, seeds), 48)
         }
     }
 }

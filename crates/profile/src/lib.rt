@@ -5,10 +5,10 @@ ghost use lib.ListN.{length};
 ghost use lib.Seq.{sets};
 ghost use Rattle.rules.specs.Profile.{blank as blankOf, fault as faultOf, only as onlyOf, reading, refused as refusedOf, writing, written};
 
+mod faults;
 mod fields;
 mod header;
 mod numbers;
-mod ranges;
 mod reader;
 
 use fields::FIELDS;

@@ -25,7 +25,7 @@ use Rattle.rules.specs.declared.Profile.{Profile}
 use Rattle.rules.specs.declared.Receipt.{Receipt}
 use Rattle.laws.specs.Levels.{Good, decide-number, decide-zero}
 use Rattle.modes.proofs.Figures.{figures}
-use Rattle.cells.proofs.Reading.{byte-lt}
+use Rattle.hearing.proofs.Reading.{byte-lt}
 use Rattle.profile.proofs.InRange.{good-level}
 use Rattle.receiving.proofs.States.{IsState, is-state, grid-fits, feeding-taken, feeding-22, asking-0, asking-22, asking-not-read}
 

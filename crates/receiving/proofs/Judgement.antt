@@ -16,7 +16,7 @@ use Rattle.rules.specs.declared.Receipt.{Receipt}
 use Rattle.laws.specs.Holds.{Holds}
 use Rattle.laws.specs.Filled.{upTo-below}
 use Rattle.laws.specs.Mask.{mask-same, mask-kept}
-use Rattle.cells.proofs.Reading.{kept-heard, kept-same}
+use Rattle.hearing.proofs.Reading.{kept-heard, kept-same}
 use Rattle.modes.proofs.Figures.{block-most, in-block, in-slot}
 use Rattle.turbo.specs.Blocks.{reasonAt, keptAt, WeighedTo}
 use Rattle.turbo.proofs.Weighing.{bytes-same, reason-same, kept-at}

@@ -64,7 +64,7 @@ fn kept_bits(mode: u8, cells: &[u8]) -> [u8; 48000]
 {
     let n = block_bits(mode);
     let mut bits = [0u8; 48000];
-    cells::read_block(mode, cells, &mut bits[..n]);
+    hearing::read_block(mode, cells, &mut bits[..n]);
     bits
 }
 

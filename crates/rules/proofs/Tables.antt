@@ -1,14 +1,14 @@
 -- Each table of the rules, held against something that a wrong digit breaks.
 use mathlib.Core.Path.{_≡_, refl}
-use mathlib.Core.Bool.{Bool, true, _&&_, Bool·beq}
+use mathlib.Core.Bool.{Bool, true, _&&_}
 use mathlib.Core.List.{List, [], _∷_}
 use Prim.Native.Nat.{ℕ, zero, suc, _+_, _-_, _*_, _/_, _%_}
-use lib.Dec.{T, eqb, leb, ltb}
+use lib.Dec.{T, eqb, ltb}
 use lib.Ieee.{Float, binary32, ofBits, neg, mul, lt}
-use Rattle.rules.specs.Bits.{pick, everyBelow, passing, row, bitOf, asNumber, byteBit}
+use Rattle.rules.specs.Bits.{everyBelow, passing, row, bitOf, asNumber, byteBit}
 use Rattle.rules.specs.Packet.{checkStep, checkRegister, checkWord}
-use Rattle.rules.specs.Field.{_⊗_, double, times, alpha}
-use Rattle.rules.specs.Outer.{generator, value}
+use Rattle.rules.specs.Field.{_⊕_, _⊗_, double, times, alpha}
+use Rattle.rules.specs.Outer.{generator}
 use Rattle.rules.specs.Kept.{nextKept, counter, count}
 use Rattle.rules.specs.Interleaver.{tableD}
 use Rattle.rules.specs.Turbo.{state, ending, codedBit, codedLength}
@@ -27,22 +27,24 @@ use Rattle.rules.specs.declared.Rate.the-variants.{Half, Third, TwoThird
 abbrev f32 : ℕ → Float
 f32 = ofBits binary32
 
--- the generator with its first coefficient, that of x^r
-unfoldable pub monic : ℕ → ℕ → ℕ
-monic r i = pick (eqb i 0) 1 (generator r (i - 1))
+-- f times x + a, where b ∷ f has the coefficients of f from the highest on; the first of the two is 0
+abbrev pub timesRoot : ℕ → ℕ → List ℕ → List ℕ
+timesRoot a b [] = (a ⊗ b) ∷ []
+timesRoot a b (c ∷ f) = (a ⊗ b ⊕ c) ∷ timesRoot a c f
 
--- for the n powers from a = α^e on: the generator's value is zero exactly where 128 - r/2 ≤ e ≤ 127 + r/2
-unfoldable pub rootsFrom : ℕ → ℕ → ℕ → ℕ → Bool
-rootsFrom r zero e a = true
-rootsFrom r (suc n) e a =
-    Bool·beq (eqb (value (suc r) (monic r) a) 0) (leb (128 - r / 2) e && ltb e (128 + r / 2))
-    && rootsFrom r n (suc e) (double a)
+-- f times x + a, x + αa, .., n of them
+abbrev pub timesRoots : ℕ → ℕ → List ℕ → List ℕ
+timesRoots zero a f = f
+timesRoots (suc n) a f = timesRoots n (double a) (timesRoot a 0 f)
 
--- The generators and the field's polynomial: among the 255 powers of α, that is, all elements but zero, the roots of each generator are
--- α^(128-r/2) to α^(127+r/2)
-pub generators : T (rootsFrom 8 255 0 1 && rootsFrom 4 255 0 1 && rootsFrom 2 255 0 1)
-unfolding rootsFrom monic generator value alpha _⊗_ double times
-generators = tt
+-- the generator is the product of x + α^e for e from 128 - r/2 to 127 + r/2
+abbrev pub HasRoots : ℕ → Type 0
+HasRoots r = timesRoots r (alpha (128 - r / 2)) (1 ∷ []) ≡ 1 ∷ firstOf r (generator r)
+
+-- The generators and the field's polynomial
+pub generators : HasRoots 8 × HasRoots 4 × HasRoots 2
+unfolding generator alpha _⊗_ double times
+generators = (refl, refl, refl)
 
 -- The check polynomial: the nine ASCII digits 123456789 give hex D64E
 pub nine-digits : checkWord (byteBit (row (49 ∷ 50 ∷ 51 ∷ 52 ∷ 53 ∷ 54 ∷ 55 ∷ 56 ∷ 57 ∷ []))) 72 ≡ 0xD64E

@@ -9,7 +9,8 @@ use Rattle.rules.specs.Turbo.{X, Y0, at, feedback, parityOf, shift, entering, s
 use Rattle.rules.specs.Bits.{row}
 use Rattle.rules.specs.Interleaver.{tableD, interleaved}
 use Rattle.rules.specs.Slots.{second}
-use Rattle.turbo.specs.Streams.{stream, placeFrom}
+use Rattle.patterns.specs.Places.{placeFrom}
+use Rattle.turbo.specs.Streams.{stream}
 use Rattle.turbo.specs.Within.{within, from, afterZeros, withData, withEnds}
 use Rattle.turbo.proofs.Streams.{stream-data, stream-tail, stream-own, stream-same, stream-first, stream-second}
 use Rattle.turbo.proofs.Within.{within-before, within-after, within-in, within-bit, within-swap, ends-same}

@@ -2,23 +2,25 @@
 use mathlib.Core.Path.{_≡_, sym, ap, ap₂, _∙_}
 use mathlib.Core.List.{List}
 use Prim.Native.Nat.{ℕ, _+_, _*_, _/_, _%_, _<_, _≤_}
-use native.Mathlib.Nat.{mod-lt, div-add-mod, div-lt-iff-lt-mul, mul-le-mul-left}
+use native.Mathlib.Nat.{div-add-mod, mul-le-mul-left}
 use native.Mathlib.Omega.{arith}
 use lib.Dec.{eqb}
 use Rattle.rules.specs.Bits.{row}
 use Rattle.rules.specs.Interleaver.{tableD, interleaved, bitInterleaved, bitDeinterleaved}
-use Rattle.rules.specs.Turbo.{codedLength, codedBit, dataPlace}
+use Rattle.rules.specs.Turbo.{codedBit, dataPlace}
 use Rattle.rules.specs.Modes.{rate, packetBits}
 use Rattle.rules.specs.Slots.{second, coded}
 use Rattle.rules.specs.Block.{decidedData}
-use Rattle.rules.specs.declared.Rate.{Rate}
 use Rattle.laws.specs.Every.{every-same}
 use Rattle.laws.specs.Filled.{upTo-below}
 use Rattle.interleaver.proofs.Interleaving.{interleaved5-lt}
 use Rattle.modes.proofs.Figures.{figures}
-use Rattle.turbo.specs.Streams.{stream, place}
-use Rattle.turbo.specs.Coded.{Places, OwnPlaces, ownPlace, sameBits, sentPlace, sentFrom}
-use Rattle.turbo.proofs.Streams.{coded-stream, place-lt, own-coded, stream-bit, stream-same}
+use Rattle.patterns.specs.Places.{Places, OwnPlaces, place, sentPlace}
+use Rattle.patterns.proofs.Rates.{place-lt}
+use Rattle.patterns.proofs.Modes.{column-lt, own-lt, own-sent-lt}
+use Rattle.turbo.specs.Streams.{stream}
+use Rattle.turbo.specs.Coded.{sameBits, sentFrom}
+use Rattle.turbo.proofs.Streams.{coded-stream, own-coded, stream-bit, stream-same}
 
 -- ---- the bit interleaver, over any number of bits that four divides
 
@@ -28,20 +30,9 @@ module _ (L : ℕ) (four : L ≡ 4 * (L / 4)) where
       let column : i % 4 ≤ 3 = omega arith in
       omega (arith, mul-le-mul-left (L / 4) column)
 
-  -- n's column
-  column-lt : (n : ℕ) → n < L → n / (L / 4) < 4
-  column-lt n lt =
-      let pos : 0 < L / 4 = omega arith in
-      div-lt-iff-lt-mul {y = 4} pos .1 (omega arith)
-
-  deinterleaved-lt : (n : ℕ) → n < L → bitDeinterleaved L n < L
-  deinterleaved-lt n lt =
-      let pos : 0 < L / 4 = omega arith in
-      omega (arith, column-lt n lt, mod-lt n pos)
-
   deinterleaved-back : (n : ℕ) → n < L → bitInterleaved L (bitDeinterleaved L n) ≡ n
   deinterleaved-back n lt =
-      let inside = column-lt n lt in
+      let inside = column-lt L four n lt in
       let column : bitDeinterleaved L n % 4 ≡ n / (L / 4) = omega arith in
       let place : bitDeinterleaved L n / 4 ≡ n % (L / 4) = omega arith in
       ap₂ (λ (a b : ℕ). L / 4 * a + b) column place ∙ div-add-mod n (L / 4)
@@ -61,13 +52,6 @@ streams-bit x bit = stream-bit x (second x) bit (λ i lt. bit (interleaved 5 (ro
 
 -- ---- the places
 
--- where bit i of x itself stands, and as which bit it is sent
-pub own-lt : (R : Rate) (i : ℕ) → i < 994 → dataPlace R i < codedLength R 994
-own-lt R i lt = own-coded R (λ k. 0) (λ k. 0) i lt .0
-
-pub own-sent-lt : (R : Rate) (L : ℕ) → codedLength R 994 ≡ L → L ≡ 4 * (L / 4) → (i : ℕ) → i < 994 → bitDeinterleaved L (dataPlace R i) < L
-own-sent-lt R L long four i lt = deinterleaved-lt L four (dataPlace R i) (omega (arith, own-lt R i lt))
-
 module _ (m : ℕ) where
   -- which of the bits before the bit interleaver is sent as bit i, and where that stands in the streams
   source-lt : (i : ℕ) → i < packetBits m → bitInterleaved (packetBits m) i < packetBits m
@@ -76,19 +60,9 @@ module _ (m : ℕ) where
   rate-place-lt : (n : ℕ) → n < packetBits m → place (rate m) n < 3988
   rate-place-lt n lt = place-lt (rate m) n (rw (figures m .coded) lt)
 
+  -- as which bit x's own bit i is sent
   pub sent-lt : (i : ℕ) → i < 994 → bitDeinterleaved (packetBits m) (dataPlace (rate m) i) < packetBits m
   sent-lt = own-sent-lt (rate m) (packetBits m) (figures m .coded) (figures m .four)
-
-  -- what the code works out by a rate that is the mode's
-  module _ (R : Rate) (is : R ≡ rate m) where
-    pub rate-quarters : (n : ℕ) → n ≡ packetBits m → (codedLength R 994 ≡ 4 * (n / 4)) × (n / 4 ≤ 750)
-    rate-quarters n e = rw is (omega (arith, figures m .coded, figures m .four), omega (arith, figures m .most))
-
-    pub rate-sent : (i : ℕ) → place R (bitInterleaved (codedLength R 994) i) ≡ sentPlace m i
-    rate-sent i = rw (is, figures m .coded)
-
-    pub rate-own : (i : ℕ) → bitDeinterleaved (codedLength R 994) (dataPlace R i) ≡ ownPlace m i
-    rate-own i = rw (is, figures m .coded)
 
   -- what the tables have
   module _ (l : List ℕ) (held : Places m l) where

@@ -7,13 +7,12 @@ ghost use Rattle.rules.specs.Bits.{pick, row};
 ghost use Rattle.rules.specs.Outer as outerRule;
 ghost use Rattle.rules.specs.Modes.{packetBits};
 ghost use Rattle.laws.specs.Holds.{Holds};
-ghost use Rattle.turbo.specs.Coded.{Addresses, Places, OwnPlaces};
+ghost use Rattle.patterns.specs.Places.{Places, OwnPlaces};
+ghost use Rattle.turbo.specs.Coded.{Addresses};
 ghost use Rattle.turbo.specs.Blocks.{codedRow, Weighed, WeighedTo};
 use super::code_with;
 use super::copy;
 use super::judge_with;
-use super::own_places;
-use super::places;
 use rules::Judgement;
 
 // The lost mask, the reasons, and the block of what is accepted, with zeros for what is lost.
@@ -28,7 +27,7 @@ pub fn code_block(mode: u8, block: [u8; 1952]) -> [u8; 48000]
     ensures { λ r. ⌜ Holds 0 48000 (codedRow mode (packetBits mode * 16) block) r ⌝ }
 {
     let addresses = interleaver::addresses();
-    let places = places(mode);
+    let places = patterns::places(mode);
     let n = modes::packet_bits(mode);
     let mut bits = [0u8; 48000];
     for p in 0..16 {
@@ -83,8 +82,8 @@ pub fn judge_block(mode: u8, marks: u16, bits: [u8; 48000]) -> Verdicts
     ensures { λ r. ⌜ WeighedTo 16 mode marks (row bits) (r .lost) (r .reasons) (r .block) ⌝ }
 {
     let addresses = interleaver::addresses();
-    let places = places(mode);
-    let own = own_places(mode);
+    let places = patterns::places(mode);
+    let own = patterns::own_places(mode);
     let n = modes::packet_bits(mode);
     let mut lost = 0u16;
     let mut reasons = [0u8; 16];

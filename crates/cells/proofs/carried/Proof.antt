@@ -3,7 +3,7 @@ use mathlib.Core.Path.{sym, _∙_}
 use native.Mathlib.Omega.{arith}
 use borrow.Author.Tests.{ltb-true, ltb-false}
 use Rattle.rules.specs.Modes.{symbols}
-use Rattle.cells.proofs.Reading.{slots-lt}
+use Rattle.cells.proofs.Within.{slots-lt}
 use Rattle.cells.proofs.Inverse.{carried-past}
 use borrow.Author.Needs.{needs}
 use Rattle.cells.proofs.carried.Statement.{statement}

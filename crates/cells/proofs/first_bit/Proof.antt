@@ -4,7 +4,7 @@ use Prim.Native.Nat.{ℕ, _+_, _*_, _≤_}
 use native.Mathlib.Omega.{arith}
 use Rattle.rules.specs.Modes.{slotBits, partBits, slots}
 use Rattle.modes.proofs.Figures.{block-most}
-use Rattle.cells.proofs.Reading.{point-inside}
+use Rattle.cells.proofs.Within.{point-inside}
 use Rattle.cells.proofs.first_bit.Statement.{statement}
 use Rattle.cells.proofs.first_bit.Tie as tie
 

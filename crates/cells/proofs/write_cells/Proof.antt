@@ -8,7 +8,7 @@ use Rattle.rules.specs.Points.{zeroPart, firstPart, secondPart}
 use Rattle.laws.specs.Holds.{Holds}
 use Rattle.laws.specs.Filled.{upTo, holds-first, holds-next, holds-whole}
 use Rattle.cells.specs.Symbol.{symbolCell}
-use Rattle.cells.proofs.Reading.{slots-lt}
+use Rattle.cells.proofs.Within.{slots-lt}
 use Rattle.cells.proofs.Signs.{signed-level, signed-own, sized-by}
 use Rattle.cells.proofs.Fits.{Fits, fits}
 use borrow.Author.Needs.{needs}

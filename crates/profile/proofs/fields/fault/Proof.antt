@@ -1,17 +1,27 @@
 -- By the field's number.
 use mathlib.Core.Path.{_≡_, refl, _∙_}
+use Prim.Native.Nat.{_+_}
 use native.Mathlib.Omega.{arith}
+use lib.ListN.{length}
 use Rattle.profile.specs.Fields.{field}
 use Rattle.profile.proofs.Table.{alone}
+use Rattle.profile.proofs.Tests.{masks-fault, seeds-fault}
 use borrow.Author.Needs.{needs}
 use Rattle.profile.proofs.fields.fault.Statement.{statement}
 use Rattle.profile.proofs.fields.fault.Tie as tie
 
-add-masks-fault : tie.Need-add-masks-fault
-add-masks-fault c = search needs
+-- what is left after the other four
+last : (c : tie.At-match-rest) → c .before .args .i ≡ 4
+last c = omega arith
 
-masks-fault-requires : tie.Need-masks-fault-requires
-masks-fault-requires c κs = omega arith
+add-several : tie.Need-add-several
+add-several c = search needs
+
+masks-passing-requires : tie.Need-masks-passing-requires
+masks-passing-requires c κs = search needs
+
+several-requires : tie.Need-several-requires
+several-requires c κs = search needs
 
 level-good-requires : tie.Need-level-good-requires
 level-good-requires c κs = search needs
@@ -37,17 +47,24 @@ add-single-2 c = search needs
 single-requires-2 : tie.Need-single-requires-2
 single-requires-2 c κs = search needs
 
-add-seeds-fault : tie.Need-add-seeds-fault
-add-seeds-fault c = search needs
+add-several-2 : tie.Need-add-several-2
+add-several-2 c = search needs
 
-seeds-fault-requires : tie.Need-seeds-fault-requires
-seeds-fault-requires c κs = omega arith
+seeds-passing-requires : tie.Need-seeds-passing-requires
+seeds-passing-requires c κs = search needs
+
+several-requires-2 : tie.Need-several-requires-2
+several-requires-2 c κs = search needs
 
 returns : tie.Need-returns
 unfolding field
 returns c =
-    let a = c .before .before .before .args in
-    c .masks-fault .ensures ∙ rw (c .before .before .match .keys1) (alone (field 0) (a .at) (a .p) tt refl)
+    let p = c .before in
+    let a = p .before .before .before .args in
+    let long : length (a .p .masks) ≡ 8 = search needs in
+    c .several .ensures
+    ∙ masks-fault 40 (a .at + 3) (p .masks-passing .result) (a .p .masks) long (p .masks-passing .ensures .0)
+    ∙ rw (p .before .before .match .keys1) (alone (field 0) (a .at) (a .p) tt refl)
 
 returns-2 : tie.Need-returns-2
 unfolding field
@@ -68,16 +85,20 @@ returns-4 c =
 returns-5 : tie.Need-returns-5
 unfolding field
 returns-5 c =
-    let a = c .before .before .before .args in
-    let last : a .i ≡ 4 = omega arith in
-    c .seeds-fault .ensures ∙ rw last (alone (field 4) (a .at) (a .p) tt refl)
+    let q = c .before in
+    let a = q .before .before .before .args in
+    let long : length (a .p .seeds) ≡ 48 = search needs in
+    c .several2 .ensures
+    ∙ seeds-fault 44 (a .at + 3) (q .seeds-passing .result) (a .p .seeds) (a .p .mode) long (q .seeds-passing .ensures .0)
+    ∙ rw (last (q .before .before)) (alone (field 4) (a .at) (a .p) tt refl)
 
 pub fault-spec : {M : Type 1} → statement M
 fault-spec =
     tie.close
     (tie.spec
-    add-masks-fault
-    masks-fault-requires
+    add-several
+    masks-passing-requires
+    several-requires
     level-good-requires
     add-single
     single-requires
@@ -86,8 +107,9 @@ fault-spec =
     k-good-requires
     add-single-2
     single-requires-2
-    add-seeds-fault
-    seeds-fault-requires
+    add-several-2
+    seeds-passing-requires
+    several-requires-2
     returns
     returns-2
     returns-3
