@@ -27,12 +27,12 @@ use Rattle.rules.specs.declared.Rate.the-variants.{Half, Third, TwoThird
 abbrev f32 : ℕ → Float
 f32 = ofBits binary32
 
--- f times x + a, where b ∷ f has the coefficients of f from the highest on; the first of the two is 0
+-- the coefficients of f times x + a, from the highest on; b is the one before f's first, 0 at the beginning
 abbrev pub timesRoot : ℕ → ℕ → List ℕ → List ℕ
 timesRoot a b [] = (a ⊗ b) ∷ []
 timesRoot a b (c ∷ f) = (a ⊗ b ⊕ c) ∷ timesRoot a c f
 
--- f times x + a, x + αa, .., n of them
+-- of f times x + a, x + αa, x + α²a, .., n such factors
 abbrev pub timesRoots : ℕ → ℕ → List ℕ → List ℕ
 timesRoots zero a f = f
 timesRoots (suc n) a f = timesRoots n (double a) (timesRoot a 0 f)
