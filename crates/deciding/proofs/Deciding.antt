@@ -1,12 +1,12 @@
 -- Decisions as the code makes them.
-use mathlib.Core.Path.{_≡_, refl, sym, _∙_, ap}
+use mathlib.Core.Path.{_≡_, refl, sym, _∙_}
 use mathlib.Core.Bool.{Bool, true, false, _&&_, _||_}
 use Prim.Native.Nat.{ℕ, _+_, _*_, _<_, _≤_}
 use lib.Dec.{ltb}
 use lib.Ieee.{Float, neg, lt}
-use borrow.Author.Tests.{lt-ltb, le-ltb}
 use Rattle.rules.specs.Bits.{pick}
 use Rattle.rules.specs.Points.{zeroPart, twice, signOf, sizeOf, sizeAndSign, decide}
+use Rattle.laws.specs.Filled.{pick-lt, pick-ge}
 use Rattle.deciding.specs.Deciding.{signOr}
 
 -- of one bit a part's decision is its sign
@@ -38,7 +38,7 @@ module _ (level a : Float) where
       go false false false false = refl
 
   pub decide-sum : sum ≤ 4 → sum ≡ decide 2 level a
-  decide-sum h = sym (ap (λ (b : Bool). pick b 4 sum) (le-ltb 4 sum h)) ∙ number
+  decide-sum h = sym (pick-ge 4 sum 4 sum h) ∙ number
 
   pub decide-over : 4 < sum → 4 ≡ decide 2 level a
-  decide-over h = sym (ap (λ (b : Bool). pick b 4 sum) (lt-ltb 4 sum h)) ∙ number
+  decide-over h = sym (pick-lt 4 sum 4 sum h) ∙ number

@@ -13,16 +13,23 @@ use Rattle.laws.specs.Every.{every-at}
 use Rattle.laws.specs.Holds.{Holds, put, holds-as, holds-put}
 use Rattle.laws.specs.Rows.{Bits}
 
+-- a choice by an order that is known
+pub pick-lt : {A : Type 0} (a b : ℕ) (u v : A) → a < b → pick (ltb a b) u v ≡ u
+pick-lt a b u v h = ap (λ (t : Bool). pick t u v) (lt-ltb a b h)
+
+pub pick-ge : {A : Type 0} (a b : ℕ) (u v : A) → b ≤ a → pick (ltb a b) u v ≡ v
+pick-ge a b u v h = ap (λ (t : Bool). pick t u v) (le-ltb a b h)
+
 -- f below i, then g
 abbrev pub upTo : {A : Type 0} → ℕ → (ℕ → A) → (ℕ → A) → ℕ → A
 upTo i f g k = pick (ltb k i) (f k) (g k)
 
 module _ {A : Type 0} (f g : ℕ → A) where
   pub upTo-below : (i k : ℕ) → k < i → upTo i f g k ≡ f k
-  upTo-below i k h = ap (λ (b : Bool). pick b (f k) (g k)) (lt-ltb k i h)
+  upTo-below i k = pick-lt k i (f k) (g k)
 
   pub upTo-from : (i k : ℕ) → i ≤ k → upTo i f g k ≡ g k
-  upTo-from i k h = ap (λ (b : Bool). pick b (f k) (g k)) (le-ltb k i h)
+  upTo-from i k = pick-ge k i (f k) (g k)
 
   -- before the first turn
   pub holds-first : (d : A) {n : ℕ} {l : List A} → Holds d n g l → Holds d n (upTo 0 f g) l

@@ -174,25 +174,13 @@ pub fn is_unread(program: &[u8]) -> bool {
     fails
 }
 
-// What the documents say of a number that refuses a profile.
-fn profile_meaning(out: &mut [u8], at: usize, number: u32) -> usize {
+// What the documents say of a number.
+fn meaning(out: &mut [u8], at: usize, number: u32) -> usize {
     match number {
         1 => put::bytes(out, at, b"profile ends inside a field"),
         2 => put::bytes(out, at, b"tag other than the one due"),
         3 => put::bytes(out, at, b"declared length wrong"),
         5 => put::bytes(out, at, b"profile ends between fields with one due"),
-        40 => put::bytes(out, at, b"a mask is outside its range"),
-        41 => put::bytes(out, at, b"the level is outside its range"),
-        42 => put::bytes(out, at, b"the mode is outside its range"),
-        43 => put::bytes(out, at, b"K is outside its range"),
-        44 => put::bytes(out, at, b"a seed is outside its range"),
-        _ => put::bytes(out, at, b"unknown number"),
-    }
-}
-
-// And of any number. Two functions, since the check of one this long takes more than twice the time of its halves.
-fn meaning(out: &mut [u8], at: usize, number: u32) -> usize {
-    match number {
         6 => put::bytes(out, at, b"the data isn't 122 x K bytes"),
         7 => put::bytes(out, at, b"the cells aren't 4096 x 8 bytes a symbol"),
         8 => put::bytes(out, at, b"symbol number outside the grid"),
@@ -206,7 +194,12 @@ fn meaning(out: &mut [u8], at: usize, number: u32) -> usize {
         17 => put::bytes(out, at, b"the last cell has not come yet"),
         18 => put::bytes(out, at, b"the two grids aren't of one length"),
         22 => put::bytes(out, at, b"a state that no feeding with this profile leaves"),
-        _ => profile_meaning(out, at, number),
+        40 => put::bytes(out, at, b"a mask is outside its range"),
+        41 => put::bytes(out, at, b"the level is outside its range"),
+        42 => put::bytes(out, at, b"the mode is outside its range"),
+        43 => put::bytes(out, at, b"K is outside its range"),
+        44 => put::bytes(out, at, b"a seed is outside its range"),
+        _ => put::bytes(out, at, b"unknown number"),
     }
 }
 

@@ -1,5 +1,5 @@
 -- The place of each bit that is sent at a rate: all that a rate has to pass is one computed test.
-use mathlib.Core.Path.{_≡_, refl, sym, ap, ap₂, _∙_}
+use mathlib.Core.Path.{_≡_, refl, sym, ap₂, _∙_}
 use mathlib.Core.Bool.{Bool, _&&_}
 use mathlib.Core.List.{List}
 use Prim.Native.Nat.{ℕ, suc, _+_, _-_, _*_, _/_, _%_, _<_, _≤_}
@@ -9,20 +9,13 @@ use native.Mathlib.Omega.{arith}
 use lib.Dec.{T, eqb, ltb, ltb→lt, eqb→eq}
 use lib.Ieee.Fits.{and-l, and-r}
 use lib.ListN.{length, getD}
-use borrow.Author.Tests.{lt-ltb, le-ltb}
-use Rattle.rules.specs.Bits.{pick, everyBelow}
+use Rattle.rules.specs.Bits.{everyBelow}
 use Rattle.rules.specs.Turbo.{Sent, X, Y0, X', Y'0, at, period, pattern, tail, dataLength, codedLength, dataPlace}
 use Rattle.rules.specs.declared.Rate.{Rate}
 use Rattle.rules.specs.declared.Rate.the-variants.{Half, Third, TwoThirds}
 use Rattle.laws.specs.Every.{every-at}
+use Rattle.laws.specs.Filled.{pick-lt, pick-ge}
 use Rattle.patterns.specs.Places.{placeFrom, place}
-
--- a choice by an order that is known
-pub pick-lt : {A : Type 0} (a b : ℕ) (u v : A) → a < b → pick (ltb a b) u v ≡ u
-pick-lt a b u v h = ap (λ (t : Bool). pick t u v) (lt-ltb a b h)
-
-pub pick-ge : {A : Type 0} (a b : ℕ) (u v : A) → b ≤ a → pick (ltb a b) u v ≡ v
-pick-ge a b u v h = ap (λ (t : Bool). pick t u v) (le-ltb a b h)
 
 -- ---- the test of a rate
 

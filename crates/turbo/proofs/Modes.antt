@@ -96,7 +96,7 @@ module _ (m : ℕ) where
   unfolding coded
   decided-coded x i lt =
       ap (codedBit (rate m) x (second x) 994) (deinterleaved-back (packetBits m) (figures m .four) (dataPlace (rate m) i) own-in)
-      ∙ own-coded (rate m) x (second x) i lt .1
+      ∙ own-coded (rate m) x (second x) i lt
     where
       own-in : dataPlace (rate m) i < packetBits m
       own-in = rw (figures m .coded) at (own-lt (rate m) i lt)

@@ -9,8 +9,9 @@ use borrow.Author.Tests.{lt-ltb, le-ltb}
 use Rattle.rules.specs.Turbo.{Output, Sent, X, Y0, X', Y'0, at, dataOutput, tailOutput}
 use Rattle.rules.specs.Turbo.{feedback, parityOf, shift, entering, state, y0, ending, dataLength, codedLength, codedBit, dataPlace}
 use Rattle.rules.specs.declared.Rate.{Rate}
+use Rattle.laws.specs.Filled.{pick-lt, pick-ge}
 use Rattle.patterns.specs.Places.{streamNumber, placeFrom, place}
-use Rattle.patterns.proofs.Rates.{pick-lt, pick-ge, further, begun, outputOf, endOf, place-data, place-tail, data-further, tail-further, own-place}
+use Rattle.patterns.proofs.Rates.{further, begun, outputOf, endOf, place-data, place-tail, data-further, tail-further, own-place}
 use Rattle.turbo.specs.Streams.{streamOf, period-of, stream}
 
 -- an output's stream has its periods in order
@@ -63,10 +64,10 @@ stream-own x x' i lt =
     let here : i ≡ placeFrom 0 (at X i) = omega arith in
     ap (stream x x') here ∙ stream-data x x' 0 (at X i) (omega arith) ∙ ap x (zero-add i)
 
-pub own-coded : (R : Rate) (x x' : ℕ → ℕ) (i : ℕ) → i < 994 → (dataPlace R i < codedLength R 994) × (codedBit R x x' 994 (dataPlace R i) ≡ x i)
+pub own-coded : (R : Rate) (x x' : ℕ → ℕ) (i : ℕ) → i < 994 → codedBit R x x' 994 (dataPlace R i) ≡ x i
 own-coded R x x' i lt =
     let own = own-place R i lt in
-    (own .0, coded-stream R x x' (dataPlace R i) (own .0) ∙ ap (stream x x') (own .1) ∙ stream-own x x' i lt)
+    coded-stream R x x' (dataPlace R i) (own .0) ∙ ap (stream x x') (own .1) ∙ stream-own x x' i lt
 
 -- ---- bits stay bits
 
