@@ -1,116 +1,26 @@
--- What is sent at a good level D decides to the bits that were sent. Rounding keeps 0 < D < 2D < 3D apart, and below zero the same stands mirrored.
--- Nothing is asked of D's digits: it need not be one of the f32 values.
-use mathlib.Core.Path.{_≡_, refl, sym, _∙_, ap, ap₂, subst}
-use mathlib.Core.Logic.{_⊎_, inl, inr}
-use mathlib.Core.Bool.{Bool, true, false, not, _&&_, _||_, and-true, and-false, and-comm, or-comm, or-true, Bool·not-not}
-use Prim.Native.Nat.{ℕ, _+_, _-_, _*_, _/_, _%_, _^_, _≤_, _<_, compare}
-use native.Mathlib.Nat.{add-comm, mul-comm, mul-assoc, mul-left-comm, one-mul, mul-pos, le-trans, mul-le-mul-left, mul-le-mul-right, mul-lt-mul-of-pos-right, lt-of-mul-lt-mul-right, lt-of-not-le, not-le-of-lt, le-div-iff-mul-le, div-add-mod', mod-lt}
-use native.Mathlib.Decide.{ℕ-discrete}
+-- Around a good level D: what rounding keeps apart, and so the floor under D, D, the ends of the doubtful range around 2D, and 3D.
+-- Nothing is asked of the digits of D and the floor: they need not be f32 values.
+use mathlib.Core.Path.{_≡_, refl, sym, _∙_, ap, subst}
+use mathlib.Core.Bool.{Bool, true, false}
+use Prim.Native.Nat.{ℕ, suc, _+_, _-_, _*_, _/_, _%_, _^_, _≤_, _<_, compare}
+use native.Mathlib.Nat.{mul-comm, mul-assoc, mul-left-comm, mul-right-comm, suc-mul, add-mul, one-mul, two-mul, sub-add-cancel, mul-pos, le-of-eq, le-of-lt, lt-of-not-le, mul-le-mul-left, mul-le-mul-right, le-of-mul-le-mul-right, lt-of-mul-lt-mul-right, le-div-iff-mul-le, div-add-mod', mod-lt}
 use native.Mathlib.Omega.{arith}
-use lib.IntN.{ℤ}
-use lib.Dec.{T, eqb, ltb, ltb→lt, lt→ltb, lit≤, lit<}
+use lib.Dec.{T, leb, leb→le, le→leb, lit≤, lit<}
 use lib.Pow.{pow-add, pow-pos}
-use lib.Ieee.{Float, nan, inf, fin, binary32, size, up, down, round, ofBits, neg, mul, below, lt, le}
+use lib.Ieee.{Float, nan, inf, fin, binary32, size, up, down, round, sum, ofBits, toBits, neg, add, sub, mul, lt, le}
 use lib.Ieee.Digits.{size-reaches}
-use lib.Ieee.Fits.{and-l, and-r, up-pos, down-pos, nearest-le}
-use lib.Ieee.Bits.{is-true}
+use lib.Ieee.Fits.{and-l, and-r, nearest-le}
+use borrow.Author.Tests.{le-ltb, ne-eqb}
 use lib.Ieee.Exact.{HasValue}
 use lib.Ieee.Nearest.{nearest-ge}
-use lib.Ieee.Order.{drop, kept, transfer, round-mono}
-use lib.Ieee.Scale.{grid, overflow, round-val, round-under, normal-of-fraction}
-use lib.Ieee.Positive.{num, den, positive, den-pos, positive-finite, own-value, values-of-le, value-pos, between, mul-at}
-use borrow.Author.Tests.{lt-ltb, le-ltb, eq-eqb, ne-eqb}
-use Rattle.rules.specs.Bits.{pick, bitOf, asNumber}
-use Rattle.rules.specs.Points.{zeroPart, triple, twice, signed, sized, part, doubtful, signOf, sizeOf, sizeAndSign, decide, bitIn}
-use Rattle.rules.specs.Profile.{isLevel, hasTriple}
+use lib.Ieee.Order.{drop, kept, round-mono}
+use lib.Ieee.Scale.{grid, overflow, round-same, round-val, round-under, normal-of-fraction}
+use lib.Ieee.Positive.{num, den, positive, den-pos, positive-finite, own-value, value→cross, value-pos, values-of-le, le→cross, through, between, mul-at}
+use Rattle.rules.specs.Points.{triple, twice, nearEnd, farEnd}
+use Rattle.rules.specs.Profile.{isLevel, hasTriple, isFloor, floorUnder}
+use Rattle.laws.specs.Order.{Low, value, low}
 
--- a level that w bits a part can be sent at: QPSK any good one, 16QAM one whose triple is finite
-abbrev pub Good : ℕ → Float → Type 0
-Good w level = T (isLevel level) × T (eqb w 1 || hasTriple level)
-
--- ---- a bit is 0 or 1, a width is 1 or 2
-
-bit-cases : (P : ℕ → Type 0) → P 0 → P 1 → (b : ℕ) → b < 2 → P b
-bit-cases P p q b h = go (ℕ-discrete b 0)
-  where
-    go : Dec (b ≡ 0) → P b
-    go (yes e) = subst P (sym e) p
-    go (no n) = subst P (omega arith) q
-
-widths : (P : ℕ → Type 0) → P 1 → P 2 → (w : ℕ) → (w ≡ 1) ⊎ (w ≡ 2) → P w
-widths P p q w (inl e) = subst P (sym e) p
-widths P p q w (inr e) = subst P (sym e) q
-
--- ---- the order and the sign
-
-neg-neg : (a : Float) → neg (neg a) ≡ a
-unfolding neg
-neg-neg nan = refl
-neg-neg (inf s) = ap inf (Bool·not-not s)
-neg-neg (fin s m e) = ap (λ (t : Bool). fin t m e) (Bool·not-not s)
-
-below-neg : (s : Bool) (a : ℕ) (t : Bool) (b : ℕ) → below (not t) b (not s) a ≡ below s a t b
-below-neg false a false b = refl
-below-neg false a true b = refl
-below-neg true a false b = ap (ltb 0) (add-comm b a)
-below-neg true a true b = refl
-
--- negation turns the order round
-lt-neg : (a b : Float) → lt (neg b) (neg a) ≡ lt a b
-unfolding lt neg
-lt-neg nan nan = refl
-lt-neg nan (inf t) = refl
-lt-neg nan (fin t n d) = refl
-lt-neg (inf s) nan = refl
-lt-neg (inf true) (inf t) = and-true (not t)
-lt-neg (inf false) (inf t) = and-false (not t)
-lt-neg (inf s) (fin t n d) = Bool·not-not s
-lt-neg (fin s m e) nan = refl
-lt-neg (fin s m e) (inf t) = refl
-lt-neg (fin s m e) (fin t n d) = below-neg s (m * up e * down d) t (n * up d * down e)
-
-lt-over : (x y : Float) → lt x (neg y) ≡ lt y (neg x)
-lt-over x y = ap (λ (z : Float). lt z (neg y)) (sym (neg-neg x)) ∙ lt-neg y (neg x)
-
-lt-under : (x y : Float) → lt (neg x) y ≡ lt (neg y) x
-lt-under x y = ap (lt (neg x)) (sym (neg-neg y)) ∙ lt-neg (neg y) x
-
--- a finite value above zero, as a pattern
-data Above : Float → Type 0 where
-  value : (m : ℕ) (e : ℤ) → 0 < m → Above (fin false m e)
-
-above : (a : Float) → T (positive a) → Above a
-above nan h = absurd h
-above (inf s) h = absurd h
-above (fin true m e) h = absurd h
-above (fin false m e) h = value m e (ltb→lt 0 m h)
-
-sign-above : {a : Float} → Above a → signOf a ≡ 0
-unfolding signOf ofBits lt
-sign-above (value m e h) = let p : 0 < m * up e = mul-pos h (up-pos e) in simp (lt-ltb (0 * down e) (m * up e * 1) (omega arith))
-
-sign-below : {a : Float} → Above a → signOf (neg a) ≡ 1
-unfolding signOf ofBits lt neg
-sign-below (value m e h) = let p : 0 < m * up e = mul-pos h (up-pos e) in simp (lt-ltb 0 (m * up e * 1 + 0 * down e) (omega arith))
-
--- of two values above zero the one's negation is below the other
-lt-across : {a b : Float} → Above a → Above b → lt (neg a) b ≡ true
-unfolding lt neg
-lt-across (value m e h) (value n d k) =
-    let p : 0 < m * up e * down d = mul-pos (mul-pos h (up-pos e)) (down-pos d) in
-    lt-ltb 0 (m * up e * down d + n * up d * down e) (omega arith)
-
-not-across : {a b : Float} → Above a → Above b → lt a (neg b) ≡ false
-unfolding lt neg
-not-across (value m e h) (value n d k) = refl
-
-lt-asym : {a b : Float} → Above a → Above b → T (lt a b) → lt b a ≡ false
-unfolding lt
-lt-asym (value m e h) (value n d k) l =
-    let p : m * up e * down d < n * up d * down e = ltb→lt (m * up e * down d) (n * up d * down e) l in
-    le-ltb (n * up d * down e) (m * up e * down d) (omega arith)
-
--- ---- rounding keeps apart
+-- ---- rounding moves little
 
 -- g is within one part in 2 ^ 23 of n
 abbrev Near : ℕ → ℕ → Type 0
@@ -132,21 +42,17 @@ near n c C h =
     let same : r * 2 ^ k * c ≡ r * u = rw (mul-assoc r (2 ^ k) c, mul-comm (2 ^ k) c) in
     omega arith
 
--- two values above zero, by the fractions that they equal
-lt-of-values : {x y : Float} (a c b d : ℕ) → Above x → Above y → HasValue x false a c → HasValue y false b d → a * d < b * c → T (lt x y)
-unfolding lt
-lt-of-values a c b d (value m e _) (value n f _) p q h =
-    lt→ltb (m * up e * down f) (n * up f * down e)
-    (lt-of-not-le
-    (λ (g : n * up f * down e ≤ m * up e * down f).
-    not-le-of-lt h (transfer b a d c (n * up f) (m * up e) (down f) (down e) (down-pos f) (down-pos e) (sym (q .1)) (sym (p .1)) g)))
+-- from the fraction g / u to m / q, which is as large
+near-cross : (n c g u m q : ℕ) → 0 < u → m * u ≡ g * q → Near (n * u) (g * c) → Near (n * q) (m * c)
+near-cross n c g u m q U e h =
+    let low = through (8388607 * n) g m (8388608 * c) u q U (rw (mul-assoc 8388607 n u, mul-left-comm g 8388608 c) (h .0)) (le-of-eq (sym e)) in
+    let high = through m g (8388609 * n) q u (8388608 * c) U (le-of-eq e) (rw (mul-assoc 8388609 n u, mul-left-comm g 8388608 c) (h .1)) in
+    (rw (mul-assoc 8388607 n q, mul-left-comm m 8388608 c) at low, rw (mul-assoc 8388609 n q, mul-left-comm m 8388608 c) at high)
 
--- x is above zero, and a count of the smallest values, 2 ^ -149 each, that is near n / c
-record Rounds (n c : ℕ) (x : Float) : Type 0 where
+-- x is above zero and near a / c
+record Rounds (a c : ℕ) (x : Float) : Type 0 where
   high : T (positive x)
-  count : ℕ
-  is : HasValue x false count (2 ^ 149)
-  close : Near n (count * c)
+  close : Near (a * den x) (num x * c)
 
 -- the ends of the normal range
 abbrev bottom : Float
@@ -179,8 +85,7 @@ in-units : (a c : ℕ) → Normal a c → 2 ^ 23 * c ≤ a * 2 ^ 149
 in-units a c h = rw (one-mul c, mul-left-comm (2 ^ 23) a (2 ^ 126)) at (mul-le-mul-left (2 ^ 23) h)
 
 -- where a / c also rounds to no more than some value, rounding moves it by as little as that
-rounds : (a c : ℕ) (t : Float) → 0 < c → Normal a c → T (positive t) → T (le (round binary32 false a c) t)
-    → Rounds (a * 2 ^ 149) c (round binary32 false a c)
+rounds : (a c : ℕ) (t : Float) → 0 < c → Normal a c → T (positive t) → T (le (round binary32 false a c) t) → Rounds a c (round binary32 false a c)
 rounds a c t C h p l =
     let x = round binary32 false a c in
     let b = rw bottom-rounds at (round-mono binary32 1 (2 ^ 126) a c (pow-pos 126) C h) in
@@ -188,12 +93,10 @@ rounds a c t C h p l =
     let fine : grid binary32 a c < overflow binary32 = round-under binary32 a c (positive-finite x q) in
     record {
       high = q;
-      count = grid binary32 a c;
-      is = round-val binary32 a c fine;
-      close = near (a * 2 ^ 149) c C (normal-of-fraction binary32 a c C (in-units a c h));
+      close = near-cross a c (grid binary32 a c) (2 ^ 149) (num x) (den x) (pow-pos 149)
+          (value→cross x (grid binary32 a c) (2 ^ 149) (round-val binary32 a c fine))
+          (near (a * 2 ^ 149) c C (normal-of-fraction binary32 a c C (in-units a c h)));
     }
-
--- ---- the levels of 16QAM
 
 -- a rounded product with a whole number
 times : (k : ℕ) (x D : Float) → T (positive x) → HasValue x false k 1 → T (positive D) → mul binary32 x D ≡ round binary32 false (k * num D) (den D)
@@ -209,199 +112,298 @@ triple-is : (D : Float) → T (positive D) → triple D ≡ round binary32 false
 unfolding triple ofBits
 triple-is D = times 3 (ofBits binary32 0x4040_0000) D tt (refl, refl)
 
--- near enough to keep a number, its double and its triple apart
-apart₁₂ : (n g : ℕ) → 0 < n → Near (2 * n) g → n < g
-apart₁₂ n g h d = omega arith
+-- ---- fractions held to D, in twentieths
 
-apart₂₃ : (n g t : ℕ) → 0 < n → Near (2 * n) g → Near (3 * n) t → g < t
-apart₂₃ n g t h d e = omega arith
+-- what less than one part in 2 ^ 23 takes from, and adds to, k times s
+less : (ks s t w : ℕ) → ks ≤ 100 * s → ks + s ≤ 20 * t → 8388607 * t ≤ 8388608 * w → ks ≤ 20 * w
+less ks s t w h l r = omega arith
+
+more : (ks s t w : ℕ) → ks ≤ 100 * s → 20 * t ≤ ks → 8388608 * w ≤ 8388609 * t → 20 * w ≤ ks + s
+more ks s t w h l r = omega arith
+
+module _ (A B : ℕ) where
+  -- n / c is at least, and at most, k twentieths of A / B
+  abbrev pub Least : ℕ → ℕ → ℕ → Type 0
+  Least k n c = k * (A * c) ≤ 20 * (n * B)
+
+  abbrev pub Most : ℕ → ℕ → ℕ → Type 0
+  Most k n c = 20 * (n * B) ≤ k * (A * c)
+
+  module _ (k a c : ℕ) (x : Float) (h : k ≤ 100) (C : 0 < c) (r : Rounds a c x) where
+    s : ℕ
+    s = A * c * den x
+
+    few : k * s ≤ 100 * s
+    few = mul-le-mul-right s h
+
+    -- both sides of a comparison with x, times c
+    left : (i : ℕ) → i * (A * den x) * c ≡ i * s
+    unfolding s
+    left i = rw (mul-assoc i (A * den x) c, mul-right-comm A (den x) c)
+
+    right : 20 * (num x * B) * c ≡ 20 * (num x * c * B)
+    right = rw (mul-assoc 20 (num x * B) c, mul-right-comm (num x) B c)
+
+    -- and with a / c, times x's denominator
+    given : (i : ℕ) → i * (A * c) * den x ≡ i * s
+    unfolding s
+    given i = mul-assoc i (A * c) (den x)
+
+    part : 20 * (a * B) * den x ≡ 20 * (a * den x * B)
+    part = rw (mul-assoc 20 (a * B) (den x), mul-right-comm a B (den x))
+
+    -- rounding takes less than one of them, and adds less than one
+    round-least : Least (suc k) a c → Least k (num x) (den x)
+    round-least l =
+        le-of-mul-le-mul-right
+        (rw (left k, right)
+        (less (k * s) s (a * den x * B) (num x * c * B) few (rw (suc-mul k s) at (rw (given (suc k), part) at (mul-le-mul-right (den x) l)))
+        (rw (mul-assoc 8388607 (a * den x) B, mul-assoc 8388608 (num x * c) B) at (mul-le-mul-right B (r .close .0)))))
+        C
+
+    round-most : Most k a c → Most (suc k) (num x) (den x)
+    round-most l =
+        le-of-mul-le-mul-right
+        (rw (left (suc k), right, suc-mul k s)
+        (more (k * s) s (a * den x * B) (num x * c * B) few (rw (given k, part) at (mul-le-mul-right (den x) l))
+        (rw (mul-assoc 8388608 (num x * c) B, mul-assoc 8388609 (a * den x) B) at (mul-le-mul-right B (r .close .1)))))
+        C
+
+  -- of two fractions the one that has fewer of them is smaller
+  pub apart : (k l n c m d : ℕ) → 0 < A → 0 < c → 0 < d → k < l → Most k n c → Least l m d → n * d < m * c
+  apart k l n c m d a C E h p q =
+      let z = A * c * d in
+      let some : 0 < z = mul-pos (mul-pos a C) E in
+      let one : 20 * (n * d * B) ≤ k * z =
+      rw (mul-assoc 20 (n * B) d, mul-right-comm n B d, mul-assoc k (A * c) d) at (mul-le-mul-right d p) in
+      let two : l * z ≤ 20 * (m * c * B) =
+      rw (mul-assoc l (A * d) c, mul-right-comm A d c, mul-assoc 20 (m * B) c, mul-right-comm m B c) at (mul-le-mul-right c q) in
+      let up : suc k ≤ l = h in
+      let next : k * z + z ≤ l * z = rw (suc-mul k z) at (mul-le-mul-right z up) in
+      lt-of-mul-lt-mul-right B (omega arith)
+
+-- ---- the level and its multiples
 
 module _ (D : Float) (good : T (isLevel D)) where
   from-bottom : T (le bottom D)
   from-bottom = and-l (le bottom D) (le D top) good
 
-  positive-level : T (positive D)
+  pub positive-level : T (positive D)
   positive-level = between bottom D top bottom-above top-above from-bottom (and-r (le bottom D) (le D top) good)
 
-  own : HasValue D false (num D) (den D)
-  own = own-value D positive-level
+  pub level-pos : 0 < num D
+  level-pos = value-pos D (num D) (den D) positive-level (den-pos D) (own-value D positive-level)
 
   normal : Normal (num D) (den D)
-  normal = values-of-le bottom D 1 (2 ^ 126) (num D) (den D) bottom-above positive-level bottom-is own from-bottom
+  normal = values-of-le bottom D 1 (2 ^ 126) (num D) (den D) bottom-above positive-level bottom-is (own-value D positive-level) from-bottom
 
-  -- D as a count, times its denominator
-  units : ℕ
-  units = num D * 2 ^ 149
+  -- so is what is no smaller
+  normal-least : (k n c : ℕ) → 20 ≤ k → Least (num D) (den D) k n c → Normal n c
+  normal-least k n c h l =
+      let all : 20 * (num D * c) ≤ k * (num D * c) = mul-le-mul-right (num D * c) h in
+      through 1 (num D) n (2 ^ 126) (den D) c (den-pos D) normal (omega arith)
 
-  units-pos : 0 < units
-  unfolding units
-  units-pos = mul-pos (value-pos D (num D) (den D) positive-level (den-pos D) own) (pow-pos 149)
+  -- a multiple's fraction
+  least-times : (k : ℕ) → Least (num D) (den D) (20 * k) (k * num D) (den D)
+  least-times k = le-of-eq (rw (mul-assoc 20 k (num D * den D), mul-assoc k (num D) (den D)))
 
-  level-above : Above D
-  level-above = above D positive-level
-
-  -- its multiples, as far as they are finite
-  multiple : (k : ℕ) (t : Float) → 1 ≤ k → T (positive t) → T (le (round binary32 false (k * num D) (den D)) t)
-      → Rounds (k * units) (den D) (round binary32 false (k * num D) (den D))
-  unfolding units
-  multiple k t h p l =
-      let more : num D ≤ k * num D = omega (arith, mul-le-mul-right (num D) h) in
-      rw (mul-assoc k (num D) (2 ^ 149)) at (rounds (k * num D) (den D) t (den-pos D) (le-trans normal (mul-le-mul-right (2 ^ 126) more)) p l)
+  most-times : (k : ℕ) → Most (num D) (den D) (20 * k) (k * num D) (den D)
+  most-times k = le-of-eq (rw (mul-assoc 20 k (num D * den D), mul-assoc k (num D) (den D)))
 
   module _ (fine : T (hasTriple D)) where
-    tripled : Rounds (3 * units) (den D) (triple D)
-    tripled = rw (triple-is D positive-level) (multiple 3 top (lit≤ tt) top-above (rw (triple-is D positive-level) at fine))
+    tripled : Rounds (3 * num D) (den D) (triple D)
+    tripled =
+        let is = triple-is D positive-level in
+        rw is (rounds (3 * num D) (den D) top (den-pos D) (normal-least 60 (3 * num D) (den D) (lit≤ tt) (least-times 3)) top-above (rw is at fine))
 
-    doubled : Rounds (2 * units) (den D) (twice D)
-    doubled =
-        let under = round-mono binary32 (2 * num D) (den D) (3 * num D) (den D) (den-pos D) (den-pos D) (mul-le-mul-right (den D) (omega arith)) in
-        rw (twice-is D positive-level) (multiple 2 (triple D) (lit≤ tt) (tripled .high) (rw (triple-is D positive-level) under))
+    -- what lies from D to 3D
+    settled : (k l n c : ℕ) → 0 < c → 20 ≤ k → l ≤ 60 → Least (num D) (den D) k n c → Most (num D) (den D) l n c → Rounds n c (round binary32 false n c)
+    settled k l n c C h i p q =
+        let some : l * (num D * c) ≤ 60 * (num D * c) = mul-le-mul-right (num D * c) i in
+        let under : n * den D ≤ 3 * num D * c = rw (mul-assoc 3 (num D) c) (omega arith) in
+        rounds n c (triple D) C (normal-least k n c h p) (tripled .high)
+        (rw (triple-is D positive-level) (round-mono binary32 n c (3 * num D) (den D) C (den-pos D) under))
 
-    line-above : Above (twice D)
-    line-above = above (twice D) (doubled .high)
+    doubled : Rounds (2 * num D) (den D) (twice D)
+    doubled = rw (twice-is D positive-level) (settled 40 40 (2 * num D) (den D) (den-pos D) (lit≤ tt) (lit≤ tt) (least-times 2) (most-times 2))
 
-    triple-above : Above (triple D)
-    triple-above = above (triple D) (tripled .high)
+    twice-least : Least (num D) (den D) 39 (num (twice D)) (den (twice D))
+    twice-least = round-least (num D) (den D) 39 (2 * num D) (den D) (twice D) (lit≤ tt) (den-pos D) doubled (least-times 2)
 
-    -- D < 2D < 3D
-    under-line : T (lt D (twice D))
-    unfolding units
-    under-line =
-        lt-of-values (num D) (den D) (doubled .count) (2 ^ 149) level-above line-above own (doubled .is)
-        (apart₁₂ units (doubled .count * den D) units-pos (doubled .close))
+    twice-most : Most (num D) (den D) 41 (num (twice D)) (den (twice D))
+    twice-most = round-most (num D) (den D) 40 (2 * num D) (den D) (twice D) (lit≤ tt) (den-pos D) doubled (most-times 2)
 
-    over-line : T (lt (twice D) (triple D))
-    over-line =
-        let g = doubled .count in
-        let t = tripled .count in
-        let less : g * den D < t * den D = apart₂₃ units (g * den D) (t * den D) units-pos (doubled .close) (tripled .close) in
-        lt-of-values g (2 ^ 149) t (2 ^ 149) line-above triple-above (doubled .is) (tripled .is)
-        (mul-lt-mul-of-pos-right (lt-of-mul-lt-mul-right (den D) less) (pow-pos 149))
+    triple-least : Least (num D) (den D) 59 (num (triple D)) (den (triple D))
+    triple-least = round-least (num D) (den D) 59 (3 * num D) (den D) (triple D) (lit≤ tt) (den-pos D) tripled (least-times 3)
 
-    size-inner : sizeOf D D ≡ 1
-    unfolding sizeOf
-    size-inner =
-        simp (
-          lt-asym level-above line-above under-line,
-          not-across level-above line-above,
-          lt-across line-above level-above,
-          is-true (lt D (twice D)) under-line,
-        )
+-- ---- the floor
 
-    size-outer : sizeOf D (triple D) ≡ 0
-    unfolding sizeOf
-    size-outer = simp (is-true (lt (twice D) (triple D)) over-line)
+-- -0.0 has the bit of its sign, so it is not among them
+pub floor-low : (a : Float) → T (isFloor a) → Low a
+unfolding ofBits toBits lt le
+floor-low nan h = absurd h
+floor-low (inf true) h = absurd h
+floor-low (inf false) h = absurd h
+floor-low (fin true m e) h =
+    let n = m * up e * 2 ^ 149 / down e in
+    let k = size n - 24 in
+    absurd (rw (ne-eqb (2 ^ 31 + k * 2 ^ 23 + n / 2 ^ k) 0 (λ z. omega arith)) at h)
+floor-low (fin false m e) h = value m e
 
-    -- either size, as a bit
-    sized-above : (b : ℕ) → b < 2 → Above (sized b D)
-    sized-above = bit-cases (λ (b : ℕ). Above (sized b D)) triple-above level-above
+-- sums and differences of what is not below zero, as fractions
+add-is : {x y : Float} → Low x → Low y → add binary32 x y ≡ round binary32 false (num x * den y + num y * den x) (den x * den y)
+unfolding add sum
+add-is (value m e) (value n d) = refl
 
-    size-sent : (b : ℕ) → b < 2 → sizeOf D (sized b D) ≡ b
-    size-sent = bit-cases (λ (b : ℕ). sizeOf D (sized b D) ≡ b) size-outer size-inner
+sub-is : {x y : Float} → Low x → Low y → num y * den x ≤ num x * den y
+    → sub binary32 x y ≡ round binary32 false (num x * den y - num y * den x) (den x * den y)
+unfolding sub add sum neg
+sub-is (value m e) (value n d) h = rw (le-ltb (m * up e * down d) (n * up d * down e) h)
 
--- ---- what is sent
+add-self : {x : Float} → Low x → add binary32 x x ≡ round binary32 false (2 * num x) (den x)
+add-self {x} h =
+    add-is h h
+    ∙ round-same binary32 false (num x * den x + num x * den x) (den x * den x) (2 * num x) (den x) (mul-pos (den-pos x) (den-pos x)) (den-pos x)
+    (rw (← two-mul (num x * den x), mul-assoc 2 (num x * den x) (den x), mul-assoc (num x) (den x) (den x), mul-assoc 2 (num x) (den x * den x)))
 
--- a part's size does not see its sign
-size-neg : (level a : Float) → sizeOf level (neg a) ≡ sizeOf level a
-unfolding sizeOf
-size-neg level a = ap₂ (λ (x y : Bool). pick x 0 (pick y 1 doubtful)) beyond within
-  where
-    t : Float
-    t = twice level
+module _ (D : Float) (good : T (isLevel D)) (F : Float) (under : T (floorUnder D F)) where
+  pub low-floor : Low F
+  low-floor = floor-low F (and-l (isFloor F) (le (add binary32 F F) D) under)
 
-    beyond : (lt t (neg a) || lt (neg a) (neg t)) ≡ (lt t a || lt a (neg t))
-    beyond = ap₂ _||_ (lt-over t a) (lt-neg t a) ∙ or-comm (lt a (neg t)) (lt t a)
+  half : T (le (round binary32 false (2 * num F) (den F)) D)
+  half = rw (add-self low-floor) at (and-r (isFloor F) (le (add binary32 F F) D) under)
 
-    within : (lt (neg t) (neg a) && lt (neg a) t) ≡ (lt (neg t) a && lt a t)
-    within = ap₂ _&&_ (lt-neg a t) (lt-under a t) ∙ and-comm (lt a t) (lt (neg t) a)
+  -- half the level, and a twentieth for the rounding
+  pub floor-most : Most (num D) (den D) 11 (num F) (den F)
+  floor-most = go (leb (1 * c) (2 * n * 2 ^ 126)) refl
+    where
+      n : ℕ
+      n = num F
 
--- what is sent of one size and one sign has that sign and that size
-sign-sent : {a : Float} → Above a → (b : ℕ) → b < 2 → signOf (signed b a) ≡ b
-sign-sent {a} h = bit-cases (λ (b : ℕ). signOf (signed b a) ≡ b) (sign-above h) (sign-below h)
+      c : ℕ
+      c = den F
 
-size-signed : (level a : Float) (b : ℕ) → b < 2 → sizeOf level (signed b a) ≡ sizeOf level a
-size-signed level a = bit-cases (λ (b : ℕ). sizeOf level (signed b a) ≡ sizeOf level a) refl (size-neg level a)
+      go : (b : Bool) → leb (1 * c) (2 * n * 2 ^ 126) ≡ b → 20 * (n * den D) ≤ 11 * (num D * c)
+      go true e =
+          let x = round binary32 false (2 * n) c in
+          let r = rounds (2 * n) c D (den-pos F) (leb→le (1 * c) (2 * n * 2 ^ 126) (rw e tt)) (positive-level D good) half in
+          let cross = le→cross x D (r .high) (positive-level D good) half in
+          let most =
+          through (8388607 * (2 * n)) (num x) (num D) (8388608 * c) (den x) (den D) (den-pos x)
+          (rw (mul-assoc 8388607 (2 * n) (den x), mul-left-comm (num x) 8388608 c) (r .close .0)) cross in
+          let most' : 8388607 * (2 * (n * den D)) ≤ 8388608 * (num D * c) =
+          rw (mul-assoc 8388607 (2 * n) (den D), mul-assoc 2 n (den D), mul-left-comm (num D) 8388608 c) at most in
+          omega arith
+      go false e =
+          let small : 2 * n * 2 ^ 126 ≤ 1 * c = le-of-lt (lt-of-not-le (λ g. subst T e (le→leb (1 * c) (2 * n * 2 ^ 126) g))) in
+          let most : 2 * (n * den D) ≤ num D * c =
+          rw (mul-assoc 2 n (den D)) at (through (2 * n) 1 (num D) c (2 ^ 126) (den D) (pow-pos 126) small (normal D good)) in
+          omega arith
 
--- ---- what is decided
+  -- D itself
+  own-least : Least (num D) (den D) 20 (num D) (den D)
+  own-least = le-of-eq refl
 
-pick-le : (b : Bool) {x y n : ℕ} → x ≤ n → y ≤ n → pick b x y ≤ n
-pick-le true h k = h
-pick-le false h k = k
+  own-most : Most (num D) (den D) 20 (num D) (den D)
+  own-most = le-of-eq refl
 
--- a size and a sign make a number of two bits, or 4
-both-le : (size sign : ℕ) → size ≤ 2 → sign ≤ 2 → sizeAndSign size sign ≤ 4
-both-le size sign h k = go (ℕ-discrete size 2)
-  where
-    go : Dec (size ≡ 2) → sizeAndSign size sign ≤ 4
-    go (yes e) = simp (eq-eqb size 2 e) (lit≤ tt)
-    go (no n) = pick-le (eqb size 2 || eqb sign 2) (lit≤ tt) (omega arith)
+  -- the floor is under D
+  pub floor-level : num F * den D < num D * den F
+  floor-level = apart (num D) (den D) 11 20 (num F) (den F) (num D) (den D) (level-pos D good) (den-pos F) (den-pos D) (lit< tt) floor-most own-least
 
-sign-le : (a : Float) → signOf a ≤ 2
-unfolding signOf
-sign-le a = pick-le (lt zeroPart a) (lit≤ tt) (pick-le (lt a zeroPart) (lit≤ tt) (lit≤ tt))
+  module _ (fine : T (hasTriple D)) where
+    -- and under 3D
+    pub floor-triple : num F * den (triple D) < num (triple D) * den F
+    floor-triple =
+        apart (num D) (den D) 11 59 (num F) (den F) (num (triple D)) (den (triple D)) (level-pos D good) (den-pos F) (den-pos (triple D)) (lit< tt) floor-most
+        (triple-least D good fine)
 
-size-le : (level a : Float) → sizeOf level a ≤ 2
-unfolding sizeOf
-size-le level a =
-    pick-le (lt (twice level) a || lt a (neg (twice level))) (lit≤ tt)
-    (pick-le (lt (neg (twice level)) a && lt a (twice level)) (lit≤ tt) (lit≤ tt))
+    -- the two ends, as fractions
+    m : ℕ
+    m = num (twice D) * den F
 
--- a decision is one of 2 ^ w numbers, or 2 ^ w for a doubtful part
-pub decide-le : (w : ℕ) (level a : Float) → (w ≡ 1) ⊎ (w ≡ 2) → decide w level a ≤ 2 ^ w
-unfolding decide
-decide-le w level a =
-    widths (λ (w : ℕ). decide w level a ≤ 2 ^ w) (sign-le a) (both-le (sizeOf level a) (signOf a) (size-le level a) (sign-le a)) w
+    n : ℕ
+    n = num F * den (twice D)
 
-both-sent : (x y : ℕ) → x < 2 → y < 2 → sizeAndSign x y ≡ (0 * 2 + x) * 2 + y
-both-sent x y h k = simp (ne-eqb x 2 (λ e. omega arith), ne-eqb y 2 (λ e. omega arith)) (omega arith)
+    c : ℕ
+    c = den (twice D) * den F
 
--- what w bits make, sent at a good level, decides to their number
-pub decide-sent : (w : ℕ) (level : Float) (s : ℕ → ℕ) → (w ≡ 1) ⊎ (w ≡ 2) → Good w level → ((j : ℕ) → s j < 2)
-    → decide w level (part w level s) ≡ asNumber w s
-unfolding decide
-decide-sent w level s h g bits = widths (λ (w : ℕ). Good w level → decide w level (part w level s) ≡ asNumber w s) one two w h g
-  where
-    one : Good 1 level → signOf (signed (s 0) level) ≡ 0 * 2 + s 0
-    one g = sign-sent (level-above level (g .0)) (s 0) (bits 0) ∙ omega arith
+    c-pos : 0 < c
+    unfolding c
+    c-pos = mul-pos (den-pos (twice D)) (den-pos F)
 
-    two : Good 2 level → decide 2 level (part 2 level s) ≡ asNumber 2 s
-    two g =
-        ap₂ sizeAndSign (size-signed level (sized (s 0) level) (s 1) (bits 1) ∙ size-sent level (g .0) (g .1) (s 0) (bits 0))
-        (sign-sent (sized-above level (g .0) (g .1) (s 0) (bits 0)) (s 1) (bits 1))
-        ∙ both-sent (s 0) (s 1) (bits 0) (bits 1)
+    low-twice : Low (twice D)
+    low-twice = low (twice D) (doubled D good fine .high)
 
--- the bits of a number, and the number of some bits
-number-bit : (w : ℕ) (s : ℕ → ℕ) → (w ≡ 1) ⊎ (w ≡ 2) → ((j : ℕ) → s j < 2) → (j : ℕ) → j < w → bitIn w (asNumber w s) j ≡ s j
-number-bit w s h bits = widths (λ (w : ℕ). (j : ℕ) → j < w → bitIn w (asNumber w s) j ≡ s j) one two w h
-  where
-    one : (j : ℕ) → j < 1 → bitIn 1 (asNumber 1 s) j ≡ s j
-    one j l =
-        let b : s 0 < 2 = bits 0 in
-        subst (λ (i : ℕ). bitIn 1 (asNumber 1 s) i ≡ s i) {x = 0} (omega arith) (simp (ne-eqb (0 + s 0) 2 (λ e. omega arith)) (omega arith))
+    line-least : 39 * (num D * c) ≤ 20 * (m * den D)
+    unfolding m c
+    line-least =
+        rw (mul-assoc 39 (num D * den (twice D)) (den F), mul-assoc (num D) (den (twice D)) (den F), mul-assoc 20 (num (twice D) * den D) (den F), mul-right-comm (num (twice D)) (den D) (den F))
+        at (mul-le-mul-right (den F) (twice-least D good fine))
 
-    two : (j : ℕ) → j < 2 → bitIn 2 (asNumber 2 s) j ≡ s j
-    two =
-        let b : s 0 < 2 = bits 0 in
-        let c : s 1 < 2 = bits 1 in
-        let sure = ne-eqb ((0 + s 0) * 2 + s 1) 4 (λ e. omega arith) in
-        bit-cases (λ (j : ℕ). bitIn 2 (asNumber 2 s) j ≡ s j) (simp sure (omega arith)) (simp sure (omega arith))
+    line-most : 20 * (m * den D) ≤ 41 * (num D * c)
+    unfolding m c
+    line-most =
+        rw (mul-assoc 41 (num D * den (twice D)) (den F), mul-assoc (num D) (den (twice D)) (den F), mul-assoc 20 (num (twice D) * den D) (den F), mul-right-comm (num (twice D)) (den D) (den F))
+        at (mul-le-mul-right (den F) (twice-most D good fine))
 
-bits-number : (w d : ℕ) → (w ≡ 1) ⊎ (w ≡ 2) → d < 2 ^ w → asNumber w (bitOf w d) ≡ d
-bits-number w d h = widths (λ (w : ℕ). d < 2 ^ w → asNumber w (bitOf w d) ≡ d) (λ l. omega arith) (λ l. omega arith) w h
+    floor-small : 20 * (n * den D) ≤ 11 * (num D * c)
+    unfolding n c
+    floor-small =
+        rw (mul-assoc 20 (num F * den D) (den (twice D)), mul-right-comm (num F) (den D) (den (twice D)), mul-assoc 11 (num D * den F) (den (twice D)), mul-assoc (num D) (den F) (den (twice D)), mul-comm (den F) (den (twice D)))
+        at (mul-le-mul-right (den (twice D)) floor-most)
 
--- so each bit is decided as it was sent
-pub decide-part : (w : ℕ) (level : Float) (s : ℕ → ℕ) → (w ≡ 1) ⊎ (w ≡ 2) → Good w level → ((j : ℕ) → s j < 2)
-    → (j : ℕ) → j < w → bitIn w (decide w level (part w level s)) j ≡ s j
-decide-part w level s h g bits j l = ap (λ (d : ℕ). bitIn w d j) (decide-sent w level s h g bits) ∙ number-bit w s h bits j l
+    less-than : n ≤ m
+    less-than = le-of-mul-le-mul-right (omega (arith, line-least, floor-small)) (den-pos D)
 
--- each number below 2 ^ w is what some part decides to
-pub decide-number : (w : ℕ) (level : Float) (d : ℕ) → (w ≡ 1) ⊎ (w ≡ 2) → Good w level → d < 2 ^ w
-    → decide w level (part w level (bitOf w d)) ≡ d
-decide-number w level d h g l =
-    decide-sent w level (bitOf w d) h g (λ j. mod-lt (d / 2 ^ (w - 1 - j)) (lit< tt)) ∙ bits-number w d h l
+    near-is : nearEnd D F ≡ round binary32 false (m - n) c
+    unfolding nearEnd m n c
+    near-is = sub-is low-twice low-floor less-than
 
--- and zero is doubtful
-pub decide-zero : (w : ℕ) (level : Float) → (w ≡ 1) ⊎ (w ≡ 2) → Good w level → decide w level zeroPart ≡ 2 ^ w
-unfolding decide signOf ofBits lt
-decide-zero w level h _ =
-    widths (λ (w : ℕ). decide w level zeroPart ≡ 2 ^ w) refl (simp (or-true (eqb (sizeOf level zeroPart) 2))) w h
+    far-is : farEnd D F ≡ round binary32 false (m + n) c
+    unfolding farEnd m n c
+    far-is = add-is low-twice low-floor
+
+    difference : (m - n) * den D + n * den D ≡ m * den D
+    difference = sym (add-mul (m - n) n (den D)) ∙ ap (λ (k : ℕ). k * den D) (sub-add-cancel less-than)
+
+    near-rounds : Rounds (m - n) c (nearEnd D F)
+    near-rounds =
+        rw near-is
+        (settled D good fine 28 41 (m - n) c c-pos (lit≤ tt) (lit≤ tt) (omega (arith, difference, line-least, floor-small)) (omega (arith, difference, line-most)))
+
+    far-rounds : Rounds (m + n) c (farEnd D F)
+    far-rounds =
+        rw far-is
+        (settled D good fine 39 52 (m + n) c c-pos (lit≤ tt) (lit≤ tt) (rw (add-mul m n (den D)) (omega (arith, line-least)))
+        (rw (add-mul m n (den D)) (omega (arith, line-most, floor-small))))
+
+    pub near-positive : T (positive (nearEnd D F))
+    near-positive = near-rounds .high
+
+    pub low-near : Low (nearEnd D F)
+    low-near = low (nearEnd D F) near-positive
+
+    pub low-far : Low (farEnd D F)
+    low-far = low (farEnd D F) (far-rounds .high)
+
+    -- D is under both of them, and 3D over
+    pub level-near : num D * den (nearEnd D F) < num (nearEnd D F) * den D
+    level-near =
+        apart (num D) (den D) 20 27 (num D) (den D) (num (nearEnd D F)) (den (nearEnd D F)) (level-pos D good) (den-pos D) (den-pos (nearEnd D F)) (lit< tt)
+        own-most (round-least (num D) (den D) 27 (m - n) c (nearEnd D F) (lit≤ tt) c-pos near-rounds (omega (arith, difference, line-least, floor-small)))
+
+    pub level-far : num D * den (farEnd D F) < num (farEnd D F) * den D
+    level-far =
+        apart (num D) (den D) 20 38 (num D) (den D) (num (farEnd D F)) (den (farEnd D F)) (level-pos D good) (den-pos D) (den-pos (farEnd D F)) (lit< tt)
+        own-most (round-least (num D) (den D) 38 (m + n) c (farEnd D F) (lit≤ tt) c-pos far-rounds (rw (add-mul m n (den D)) (omega (arith, line-least))))
+
+    pub far-triple : num (farEnd D F) * den (triple D) < num (triple D) * den (farEnd D F)
+    far-triple =
+        apart (num D) (den D) 53 59 (num (farEnd D F)) (den (farEnd D F)) (num (triple D)) (den (triple D)) (level-pos D good) (den-pos (farEnd D F))
+        (den-pos (triple D)) (lit< tt)
+        (round-most (num D) (den D) 52 (m + n) c (farEnd D F) (lit≤ tt) c-pos far-rounds (rw (add-mul m n (den D)) (omega (arith, line-most, floor-small))))
+        (triple-least D good fine)
+
+    pub low-triple : Low (triple D)
+    low-triple = low (triple D) (tripled D good fine .high)

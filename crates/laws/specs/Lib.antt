@@ -1,5 +1,9 @@
 pub mod Holds
+pub mod Order
 pub mod Levels
+pub mod Decisions
+pub mod Doubt
+pub mod Floorless
 pub mod Rows
 pub mod Every
 pub mod Filled

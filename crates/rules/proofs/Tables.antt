@@ -4,7 +4,7 @@ use mathlib.Core.Bool.{Bool, true, _&&_}
 use mathlib.Core.List.{List, [], _∷_}
 use Prim.Native.Nat.{ℕ, zero, suc, _+_, _-_, _*_, _/_, _%_}
 use lib.Dec.{T, eqb, ltb}
-use lib.Ieee.{Float, binary32, ofBits, neg, mul, lt}
+use lib.Ieee.{Float, binary32, ofBits, neg, add, sub, mul, lt}
 use Rattle.rules.specs.Bits.{everyBelow, passing, row, bitOf, asNumber, byteBit}
 use Rattle.rules.specs.Packet.{checkStep, checkRegister, checkWord}
 use Rattle.rules.specs.Field.{_⊕_, _⊗_, double, times, alpha}
@@ -17,7 +17,7 @@ use Rattle.rules.specs.Examples.{firstOf}
 use Rattle.rules.specs.Answers.{isNumber, namesField, isAnswer, isReason, hasRead}
 use Rattle.rules.specs.Profile.{Tested, Field, fields, blank}
 use Rattle.rules.specs.Modes.{mode, slotBits, packetBits, slots, symbols}
-use Rattle.rules.specs.Points.{twice, signOf, sizeOf, decide}
+use Rattle.rules.specs.Points.{twice, signOf, nearEnd, farEnd, sizeOf, decide}
 use Rattle.rules.specs.Pieces.{stateBytes, cellByte, isCellByte}
 use Rattle.rules.specs.declared.Profile.{Profile}
 use Rattle.rules.specs.declared.Rate.{Rate}
@@ -83,14 +83,14 @@ unfolding codedBit state ending
 two-thirds-sent = refl
 
 -- The table of what the desk says back has these numbers and no other below a byte's 256, receiving reads the cells at these, and gives these reasons
-pub numbers-listed : passing 256 0 isNumber ≡ 0 ∷ 1 ∷ 2 ∷ 3 ∷ 5 ∷ 6 ∷ 7 ∷ 8 ∷ 9 ∷ 10 ∷ 16 ∷ 17 ∷ 18 ∷ 22 ∷ 40 ∷ 41 ∷ 42 ∷ 43 ∷ 44 ∷ []
+pub numbers-listed : passing 256 0 isNumber ≡ 0 ∷ 1 ∷ 2 ∷ 3 ∷ 5 ∷ 6 ∷ 7 ∷ 8 ∷ 9 ∷ 10 ∷ 16 ∷ 17 ∷ 18 ∷ 22 ∷ 40 ∷ 41 ∷ 42 ∷ 43 ∷ 44 ∷ 45 ∷ []
 numbers-listed = refl
 
 -- of these, the ones that name a field and have a place
-pub named-listed : passing 256 0 namesField ≡ 40 ∷ 41 ∷ 42 ∷ 43 ∷ 44 ∷ []
+pub named-listed : passing 256 0 namesField ≡ 40 ∷ 41 ∷ 42 ∷ 43 ∷ 44 ∷ 45 ∷ []
 named-listed = refl
 
-pub placed-listed : passing 256 0 (λ n. isAnswer n 3) ≡ 40 ∷ 41 ∷ 42 ∷ 43 ∷ 44 ∷ []
+pub placed-listed : passing 256 0 (λ n. isAnswer n 3) ≡ 40 ∷ 41 ∷ 42 ∷ 43 ∷ 44 ∷ 45 ∷ []
 placed-listed = refl
 
 -- how many bytes the numbers of each field have
@@ -103,7 +103,7 @@ sizesOf [] p = []
 sizesOf (f ∷ fs) p = sizes (f .tested p) ∷ sizesOf fs p
 
 -- In mode 0, where every seed is in use, they are as many as document 01 gives the fields' values
-pub sizes-listed : sizesOf fields blank ≡ 32 ∷ 4 ∷ 1 ∷ 1 ∷ 192 ∷ []
+pub sizes-listed : sizesOf fields blank ≡ 32 ∷ 4 ∷ 1 ∷ 1 ∷ 192 ∷ 4 ∷ []
 unfolding mode slotBits packetBits slots
 sizes-listed = refl
 
@@ -125,21 +125,21 @@ pub more-bytes-listed : passing 256 0 (isCellByte 2) ≡ passing 25 0 (λ b. tru
 more-bytes-listed = refl
 
 abbrev one-byte : ℕ → ℕ → ℕ
-one-byte a b = cellByte 1 (f32 0x3F80_0000) (f32 a) (f32 b)
+one-byte a b = cellByte 1 (f32 0x3F80_0000) (f32 0) (f32 a) (f32 b)
 
 pub bytes-made : one-byte 0xBF80_0000 0x3F80_0000 ∷ one-byte 0x3F80_0000 0xBF80_0000 ∷ one-byte 0 0xBF80_0000 ∷ one-byte 0x3F80_0000 0 ∷ one-byte 0 0 ∷ []
     ≡ 1 ∷ 3 ∷ 5 ∷ 6 ∷ 8 ∷ []
-unfolding decide signOf ofBits lt
+unfolding decide signOf ofBits lt neg
 bytes-made = refl
 
 -- and of 16QAM at level 1.0: 3.0 and 1.0, -3.0 and -1.0, 1.0 and 3.0, 0.0 and -3.0, 2.0 and -2.0
 abbrev two-byte : ℕ → ℕ → ℕ
-two-byte a b = cellByte 2 (f32 0x3F80_0000) (f32 a) (f32 b)
+two-byte a b = cellByte 2 (f32 0x3F80_0000) (f32 0) (f32 a) (f32 b)
 
 pub more-bytes-made : two-byte 0x4040_0000 0x3F80_0000 ∷ two-byte 0xC040_0000 0xBF80_0000 ∷ two-byte 0x3F80_0000 0x4040_0000 ∷ two-byte 0 0xC040_0000
     ∷ two-byte 0x4000_0000 0xC000_0000 ∷ []
     ≡ 10 ∷ 16 ∷ 2 ∷ 9 ∷ 24 ∷ []
-unfolding decide signOf sizeOf twice ofBits lt mul neg
+unfolding decide signOf sizeOf nearEnd farEnd twice ofBits lt mul add sub neg
 more-bytes-made = refl
 
 -- The order of points and its inverse as lists, so that each entry is worked out once

@@ -7,12 +7,12 @@ use Rattle.rules.specs.declared.Outcome.the-variants.{Done, BadK, BadLen
 use Rattle.rules.specs.declared.Coding.{Coding}
 use Rattle.rules.specs.declared.Coding.the-variants.{Coded, WrongMode, WrongLength}
 
--- the numbers that name the field whose value is out of its range: 40 mask, 41 level, 42 mode, 43 K, 44 seed (Req 04)
+-- the numbers that name the field whose value is out of its range: 40 mask, 41 level, 42 mode, 43 K, 44 seed (Req 04), 45 floor (Req 07)
 abbrev pub namesField : ℕ → Bool
-namesField n = leb 40 n && leb n 44
+namesField n = leb 40 n && leb n 45
 
 -- 0 done, 1 to 3 and 5 to 10 the refusals; and those of document 02: 16 too many cells, 17 the last cell not yet seen, 18 the four lists not all of one
--- length, 22 no such state, and 40 to 44, which stand where 4 stood
+-- length, 22 no such state, and 40 to 45, which stand where 4 stood
 abbrev pub isNumber : ℕ → Bool
 isNumber n = leb n 3 || leb 5 n && leb n 10 || leb 16 n && leb n 18 || eqb n 22 || namesField n
 

@@ -86,7 +86,7 @@ partOf n firsts seconds at = pick (eqb (n % 2) 0) (getD firsts at zeroPart) (get
 unfoldable pub heard : Profile → List Float → List Float → ℕ → ℕ → ℕ
 heard P firsts seconds t i =
     let w = partBits (P .mode) in
-    bitIn w (decide w (P .level) (partOf (i / w) firsts seconds (gridCell t (i / w / 2)))) (i % w)
+    bitIn w (decide w (P .level) (P .floor) (partOf (i / w) firsts seconds (gridCell t (i / w / 2)))) (i % w)
 
 -- doubtful, or unscrambled
 abbrev pub unscrambled : ℕ → ℕ → ℕ

@@ -1,19 +1,19 @@
--- The founder's three sentences, and what Req 05 of document 02 promises, as propositions about the calls' rules. That every call comes back, with no `requires`, and answers by its rule is
+-- The founder's three sentences, and what Req 05 and Req 07 of document 02 promise, as propositions about the calls' rules. That every call comes back, with no `requires`, and answers by its rule is
 -- each function's own contract; card/proofs proves these.
 use mathlib.Core.Path.{_≡_}
 use mathlib.Core.List.{List, _++_}
 use mathlib.Core.Logic.{_⊎_, _↔_}
-use Prim.Native.Nat.{ℕ, suc, _+_, _-_, _*_, _/_, _%_, _<_, _≤_}
+use Prim.Native.Nat.{ℕ, suc, _+_, _-_, _*_, _/_, _%_, _^_, _<_, _≤_}
 use lib.Count.{ones}
 use lib.Dec.{T}
-use lib.Ieee.{Float}
+use lib.Ieee.{Float, nan, neg, le}
 use lib.ListN.{length, getD, take, replicate}
 use Rattle.rules.specs.Bits.{row, differ}
 use Rattle.rules.specs.Packet.{packetBit}
 use Rattle.rules.specs.Outer.{marked}
-use Rattle.rules.specs.Modes.{slotBits, packetBits, slots, symbols}
+use Rattle.rules.specs.Modes.{partBits, slotBits, packetBits, slots, symbols}
 use Rattle.rules.specs.Slots.{coded}
-use Rattle.rules.specs.Points.{zeroPart, doubtful}
+use Rattle.rules.specs.Points.{zeroPart, part, doubtful, nearEnd, farEnd, decide, decideWithout}
 use Rattle.rules.specs.Profile.{fields, only, fault, inRange, Shape, Whole, reading, readAs, headed, spelt, written, writing, blank, largest}
 use Rattle.rules.specs.Answers.{isNumber, isAnswer, namesField, isReason, hasRead}
 use Rattle.rules.specs.Block.{scrambler, sentBit, heard, Cells, SendRule, SendSymbolRule}
@@ -332,3 +332,28 @@ pub record SideBySide : Type 0 where
       → ((y : ℕ) → y < n → answers y .number ≡ 0)
       × (a .count ≡ total n (λ y. answers y .count))
       × (6 * a .count ≤ length before → take (6 * a .count) after ≡ inTurn n (λ y. take (6 * answers y .count) (lists y)))
+
+-- ---- Req 07. Weak cells don't vote
+
+-- from one end to the other, ends included
+abbrev pub Within : Float → Float → Float → Type 0
+Within low high a = T (le low a) × T (le a high)
+
+-- NaN, around zero; of two bits also around 2D and -2D
+abbrev pub Weak : ℕ → Float → Float → Float → Type 0
+Weak w level floor a =
+    (a ≡ nan) ⊎ (Within (neg floor) floor a
+    ⊎ ((w ≡ 2) × (Within (nearEnd level floor) (farEnd level floor) a ⊎ Within (neg (farEnd level floor)) (neg (nearEnd level floor)) a)))
+
+pub record WeakCells : Type 0 where
+  -- at the floor +0.0 every decision is as before
+  pub as-before : (w : ℕ) (level a : Float) → decide w level zeroPart a ≡ decideWithout w level a
+  -- with a good profile the doubtful parts are exactly the weak ones
+  pub doubtful-exactly : (P : Profile) (a : Float)
+      → T (inRange P)
+      → (decide (partBits (P .mode)) (P .level) (P .floor) a ≡ 2 ^ partBits (P .mode)) ↔ Weak (partBits (P .mode)) (P .level) (P .floor) a
+  -- and none that is sent is among them
+  pub never-sent : (P : Profile) (s : ℕ → ℕ)
+      → T (inRange P)
+      → ((j : ℕ) → s j < 2)
+      → decide (partBits (P .mode)) (P .level) (P .floor) (part (partBits (P .mode)) (P .level) s) < 2 ^ partBits (P .mode)

@@ -1,11 +1,11 @@
 -- Document 01, "Bench examples", those marked P, and what document 02 names (Req 01 the places of points, Req 04 those of what is at fault in a profile,
--- Req 05 two grids side by side, Req 06 the modes of 16QAM): what the rules give, and what the documents say.
+-- Req 05 two grids side by side, Req 06 the modes of 16QAM, Req 07 the floor): what the rules give, and what the documents say.
 use mathlib.Core.Path.{_≡_}
 use mathlib.Core.List.{List, [], _∷_, _++_}
 use Prim.Native.Nat.{ℕ, zero, suc, _+_, _-_, _/_, _%_, _^_}
 use lib.Dec.{eqb}
 use lib.Ieee.{binary32, ofBits, toBits}
-use lib.ListN.{replicate}
+use lib.ListN.{length, replicate, take}
 use Rattle.rules.specs.Bits.{pick, row, passing}
 use Rattle.rules.specs.Outer.{remainder}
 use Rattle.rules.specs.Kept.{counter}
@@ -13,7 +13,7 @@ use Rattle.rules.specs.Interleaver.{tableD, address, bitInterleaved}
 use Rattle.rules.specs.Turbo.{y0}
 use Rattle.rules.specs.Modes.{isMode, partBits, slotBits, packetBits, slots, symbols}
 use Rattle.rules.specs.Slots.{scrambling, symbolOf, slotNumber}
-use Rattle.rules.specs.Points.{triple, pointOf, firstPart, secondPart, decide, bitIn}
+use Rattle.rules.specs.Points.{triple, pointOf, firstPart, secondPart, nearEnd, farEnd, decide, bitIn}
 use Rattle.rules.specs.Cells.{placeOf, pointAt, cellOf}
 use Rattle.rules.specs.Profile.{fault, reading, written}
 use Rattle.rules.specs.Block.{cellFor}
@@ -46,9 +46,14 @@ someLevel = 0x3FC0_0000
 abbrev pub onesBut : ℕ → ℕ → ℕ → List ℕ
 onesBut n i x = replicate i 1 ++ (x ∷ replicate (n - 1 - i) 1)
 
--- what a profile is refused with, as a value and as bytes; masks and seeds are given, and the level by its bits
+-- what a profile is refused with, as a value and as bytes; masks and seeds are given, and level and floor by their bits
+abbrev pub withFloor : ℕ → List ℕ → ℕ → ℕ → ℕ → List ℕ → Profile
+withFloor floor masks level mode k seeds =
+    record { masks = masks; level = ofBits binary32 level; mode = mode; k = k; seeds = seeds; floor = ofBits binary32 floor }
+
+-- with the floor +0.0
 abbrev pub valueOf : List ℕ → ℕ → ℕ → ℕ → List ℕ → Profile
-valueOf masks level mode k seeds = record { masks = masks; level = ofBits binary32 level; mode = mode; k = k; seeds = seeds }
+valueOf = withFloor 0
 
 abbrev pub asValue : Profile → List ℕ
 asValue P = fault P .number ∷ fault P .place ∷ []
@@ -85,9 +90,31 @@ carrying w b =
     let c = cellFor w (ofBits binary32 a1) (λ t i. pick (eqb t 2) (only b i) 0) (PointOf 2 1) in
     toBits binary32 (firstPart c) ∷ toBits binary32 (secondPart c) ∷ []
 
--- what a part of 16QAM, given by its bits, decides to at level 1.5, whose lines are at 3.0 and -3.0
+-- what a part of w bits, given by its own bits, decides to at level 1.5 and a floor, given by its bits
+abbrev pub decidedAt : ℕ → ℕ → ℕ → ℕ
+decidedAt floor w part = decide w (ofBits binary32 someLevel) (ofBits binary32 floor) (ofBits binary32 part)
+
+-- of 16QAM with the floor +0.0, where the lines are at 3.0 and -3.0
 abbrev pub decided : ℕ → ℕ
-decided part = decide 2 (ofBits binary32 someLevel) (ofBits binary32 part)
+decided = decidedAt 0 2
+
+-- with the floor 0.5, of QPSK and of 16QAM: the ranges run from -0.5 to 0.5, from 2.5 to 3.5 and from -3.5 to -2.5
+abbrev pub weighed : ℕ → ℕ
+weighed = decidedAt 0x3F00_0000 1
+
+abbrev pub weighedTwo : ℕ → ℕ
+weighedTwo = decidedAt 0x3F00_0000 2
+
+-- the ends of the range around 2D, by their bits, at a level and a floor by theirs
+abbrev pub endsOf : ℕ → ℕ → List ℕ
+endsOf level floor =
+    toBits binary32 (nearEnd (ofBits binary32 level) (ofBits binary32 floor))
+    ∷ toBits binary32 (farEnd (ofBits binary32 level) (ofBits binary32 floor))
+    ∷ []
+
+-- a profile that is good but for its floor, in mode 0, by that one's bits
+abbrev pub floored : ℕ → Profile
+floored floor = withFloor floor (replicate 8 1) someLevel 0 14 (replicate 48 1)
 
 -- the largest level whose triple is finite, by its bits
 abbrev pub mostTripled : ℕ
@@ -126,7 +153,7 @@ examples =
       said = 0xBFC0_0000 ∷ 0x3FC0_0000 ∷ [];
     }
     -- P12 part -0.0: doubtful
-    ∷ record { given = decide 1 (ofBits binary32 someLevel) (ofBits binary32 0x8000_0000) ∷ []; said = 2 ∷ [] }
+    ∷ record { given = decidedAt 0 1 0x8000_0000 ∷ []; said = 2 ∷ [] }
     -- Req 01 the first kept places, and the points there
     ∷ record { given = firstOf 3 placeOf; said = 0 ∷ 256 ∷ 128 ∷ [] }
     ∷ record { given = pointAt 0 ∷ pointAt 256 ∷ pointAt 128 ∷ []; said = 0 ∷ 1 ∷ 2 ∷ [] }
@@ -228,4 +255,40 @@ examples =
     ∷ record { given = asValue (valueOf (replicate 8 1) someLevel 3 14 (replicate 48 1)); said = 44 ∷ 117 ∷ [] }
     ∷ record { given = asBytes (valueOf (replicate 8 1) someLevel 4 14 (onesBut 48 11 0)); said = 44 ∷ 97 ∷ [] }
     ∷ record { given = asValue (valueOf (replicate 8 1) someLevel 4 14 (replicate 48 1)); said = 44 ∷ 101 ∷ [] }
+    -- Req 07 parts at the ends of the ranges and one f32 step to either side, at 0.5, -0.5, 2.5, 3.5, -2.5 and -3.5
+    ∷ record { given = weighed 0x3F00_0000 ∷ weighed 0x3EFF_FFFF ∷ weighed 0x3F00_0001 ∷ []; said = 2 ∷ 2 ∷ 0 ∷ [] }
+    ∷ record { given = weighed 0xBF00_0000 ∷ weighed 0xBEFF_FFFF ∷ weighed 0xBF00_0001 ∷ []; said = 2 ∷ 2 ∷ 1 ∷ [] }
+    ∷ record { given = weighed 0 ∷ weighed 0x7FC0_0000 ∷ weighed 0x7F80_0000 ∷ weighed 0xFF80_0000 ∷ []; said = 2 ∷ 2 ∷ 0 ∷ 1 ∷ [] }
+    ∷ record { given = weighedTwo 0x3F00_0000 ∷ weighedTwo 0x3F00_0001 ∷ weighedTwo 0xBF00_0000 ∷ weighedTwo 0xBF00_0001 ∷ []; said = 4 ∷ 2 ∷ 4 ∷ 3 ∷ [] }
+    ∷ record { given = weighedTwo 0x401F_FFFF ∷ weighedTwo 0x4020_0000 ∷ weighedTwo 0x4060_0000 ∷ weighedTwo 0x4060_0001 ∷ []; said = 2 ∷ 4 ∷ 4 ∷ 0 ∷ [] }
+    ∷ record { given = weighedTwo 0xC01F_FFFF ∷ weighedTwo 0xC020_0000 ∷ weighedTwo 0xC060_0000 ∷ weighedTwo 0xC060_0001 ∷ []; said = 3 ∷ 4 ∷ 4 ∷ 1 ∷ [] }
+    ∷ record { given = weighedTwo 0x4040_0000 ∷ weighedTwo 0x7FC0_0000 ∷ weighedTwo 0x7F80_0000 ∷ weighedTwo 0xFF80_0000 ∷ []; said = 4 ∷ 4 ∷ 0 ∷ 1 ∷ [] }
+    -- Req 07 the ends in one rounding: two would lose the floor that is 1.25 units of 1.0's last place, and 3D - (D + floor) one step of the second level;
+    -- the smallest subnormal floor at the least level and at 1.0; half the least level, and half the largest with a finite triple
+    ∷ record { given = endsOf a1 0x33A0_0000 ++ endsOf 0x3F80_0001 0x3E80_0000; said = 0x3FFF_FFFF ∷ 0x4000_0000 ∷ 0x3FE0_0002 ∷ 0x4010_0001 ∷ [] }
+    ∷ record { given = endsOf 0x0080_0000 1 ++ endsOf a1 1; said = 0x00FF_FFFF ∷ 0x0100_0000 ∷ 0x4000_0000 ∷ 0x4000_0000 ∷ [] }
+    ∷ record {
+      given = endsOf 0x0080_0000 0x0040_0000 ++ endsOf mostTripled 0x7E2A_AAAA;
+      said = 0x00C0_0000 ∷ 0x0120_0000 ∷ 0x7EFF_FFFF ∷ 0x7F55_5554 ∷ [];
+    }
+    -- Req 07 floors of +0.0, the smallest subnormal, just below and at D/2; just above D/2, -0.0, below zero, infinity, NaN; the largest of all, and one whose double is infinite
+    ∷ record { given = asBytes (floored 0) ++ asBytes (floored 1) ++ asBytes (floored 0x3F3F_FFFF) ++ asBytes (floored 0x3F40_0000); said = replicate 8 0 }
+    ∷ record { given = asBytes (floored 0x3F40_0001) ++ asBytes (floored 0x8000_0000) ++ asValue (floored 0x8000_0001); said = 45 ∷ 248 ∷ 45 ∷ 248 ∷ 45 ∷ 248 ∷ [] }
+    ∷ record { given = asBytes (floored 0x7F80_0000) ++ asValue (floored 0x7FC0_0000); said = 45 ∷ 248 ∷ 45 ∷ 248 ∷ [] }
+    ∷ record {
+      given = asBytes (withFloor 0x7EFF_FFFF (replicate 8 1) 0x7F7F_FFFF 1 14 (replicate 32 1 ++ replicate 16 0))
+          ++ asBytes (withFloor 0x7F7F_FFFF (replicate 8 1) 0x7F7F_FFFF 1 14 (replicate 32 1 ++ replicate 16 0))
+          ++ asValue (withFloor 0x3F40_0001 (replicate 8 1) someLevel 4 14 (replicate 12 1 ++ replicate 36 0));
+      said = 0 ∷ 0 ∷ 45 ∷ 184 ∷ 45 ∷ 104 ∷ [];
+    }
+    -- Req 07 the floor after the seeds; bytes without it, 5; surplus bytes after it
+    ∷ record { given = asValue (withFloor 0x8000_0000 (replicate 8 1) someLevel 0 14 (onesBut 48 47 0)); said = 44 ∷ 241 ∷ [] }
+    ∷ record {
+      given = reading (take 245 (written (floored 0))) .number
+          ∷ reading (written (floored 0) ++ (7 ∷ 0 ∷ [])) .number
+          ∷ reading (written (floored 0) ++ (7 ∷ 0 ∷ 0 ∷ [])) .number
+          ∷ length (written (floored 0))
+          ∷ [];
+      said = 5 ∷ 1 ∷ 2 ∷ 252 ∷ [];
+    }
     ∷ []

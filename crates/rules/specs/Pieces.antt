@@ -39,12 +39,12 @@ abbrev pub choices : ℕ → ℕ
 choices w = 2 ^ w + 1
 
 -- what it is once the cell has come: the first part's decision, and 3 or 5 times the second's
-abbrev pub cellByte : ℕ → Float → Float → Float → ℕ
-cellByte w level first second = decide w level first + choices w * decide w level second
+abbrev pub cellByte : ℕ → Float → Float → Float → Float → ℕ
+cellByte w level floor first second = decide w level floor first + choices w * decide w level floor second
 
 -- the byte of cell c of two lists
 abbrev pub byteAt : Profile → List Float → List Float → ℕ → ℕ
-byteAt P firsts seconds c = cellByte (partBits (P .mode)) (P .level) (getD firsts c zeroPart) (getD seconds c zeroPart)
+byteAt P firsts seconds c = cellByte (partBits (P .mode)) (P .level) (P .floor) (getD firsts c zeroPart) (getD seconds c zeroPart)
 
 -- each of the two decisions is one of these; so a part's bits are doubtful together
 abbrev pub isCellByte : ℕ → ℕ → Bool

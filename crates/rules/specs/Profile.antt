@@ -1,10 +1,10 @@
--- Document 01, "Profile", and document 02, Req 04: the fields as a table that reading, writing and finding what is at fault in a value walk.
+-- Document 01, "Profile", and document 02, Req 04 and Req 07: the fields as a table that reading, writing and finding what is at fault in a value walk.
 use mathlib.Core.Path.{_≡_}
 use mathlib.Core.Bool.{Bool, not, _&&_, _||_}
 use mathlib.Core.List.{List, [], _∷_, _++_}
 use Prim.Native.Nat.{ℕ, zero, suc, _+_, _-_, _*_, _/_, _%_, _^_, _<_, _≤_}
 use lib.Dec.{T, eqb, leb, ltb}
-use lib.Ieee.{Float, binary32, ofBits, toBits, le, fits}
+use lib.Ieee.{Float, binary32, ofBits, toBits, add, lt, le, fits}
 use lib.ListN.{length, take, drop, replicate}
 use Rattle.rules.specs.Bits.{pick, row}
 use Rattle.rules.specs.Outer.{isK}
@@ -50,6 +50,14 @@ hasTriple a = le (triple a) (ofBits binary32 0x7F7F_FFFF)
 -- a level that a mode can send: QPSK any, 16QAM one whose triple is finite
 abbrev pub sends : ℕ → Float → Bool
 sends m level = eqb (partBits m) 1 || hasTriple level
+
+-- the floor (Req 07): +0.0, or positive and finite; -0.0 is neither
+abbrev pub isFloor : Float → Bool
+isFloor a = eqb (toBits binary32 a) 0 || (lt zeroPart a && le a (ofBits binary32 0x7F7F_FFFF))
+
+-- a floor under a level: twice the one is at most the other
+abbrev pub floorUnder : Float → Float → Bool
+floorUnder level floor = isFloor floor && le (add binary32 floor floor) level
 
 -- one number of a field's value: how many bytes it has, and whether it is in its range
 pub record Tested : Type 0 where
@@ -103,7 +111,7 @@ fields =
       tag = 1;
       refusal = 40;
       due = λ p. 32;
-      with = λ p s. record { masks = words 8 s; level = p .level; mode = p .mode; k = p .k; seeds = p .seeds };
+      with = λ p s. record { masks = words 8 s; level = p .level; mode = p .mode; k = p .k; seeds = p .seeds; floor = p .floor };
       tested = λ p. each 4 in20 (p .masks);
       also = noMore;
       bytes = λ p. allBytes (p .masks);
@@ -112,7 +120,7 @@ fields =
       tag = 2;
       refusal = 41;
       due = λ p. 4;
-      with = λ p s. record { masks = p .masks; level = ofBits binary32 (number s); mode = p .mode; k = p .k; seeds = p .seeds };
+      with = λ p s. record { masks = p .masks; level = ofBits binary32 (number s); mode = p .mode; k = p .k; seeds = p .seeds; floor = p .floor };
       tested = λ p. one 4 (isLevel (p .level));
       also = noMore;
       bytes = λ p. wordBytes (toBits binary32 (p .level));
@@ -121,7 +129,7 @@ fields =
       tag = 3;
       refusal = 42;
       due = λ p. 1;
-      with = λ p s. record { masks = p .masks; level = p .level; mode = number s; k = p .k; seeds = p .seeds };
+      with = λ p s. record { masks = p .masks; level = p .level; mode = number s; k = p .k; seeds = p .seeds; floor = p .floor };
       tested = λ p. one 1 (isMode (p .mode));
       also = levelInMode;
       bytes = λ p. p .mode ∷ [];
@@ -130,7 +138,7 @@ fields =
       tag = 4;
       refusal = 43;
       due = λ p. 1;
-      with = λ p s. record { masks = p .masks; level = p .level; mode = p .mode; k = number s; seeds = p .seeds };
+      with = λ p s. record { masks = p .masks; level = p .level; mode = p .mode; k = number s; seeds = p .seeds; floor = p .floor };
       tested = λ p. one 1 (isK (p .k));
       also = noMore;
       bytes = λ p. p .k ∷ [];
@@ -146,25 +154,37 @@ fields =
             mode = p .mode;
             k = p .k;
             seeds = words (slots (p .mode)) s ++ replicate (48 - slots (p .mode)) 0;
+            floor = p .floor;
           };
       -- as many as there are slots; an unused one is zero
       tested = λ p. each 4 in20 (take (slots (p .mode)) (p .seeds)) ++ each 4 (eqb 0) (drop (slots (p .mode)) (p .seeds));
       also = noMore;
       bytes = λ p. allBytes (take (slots (p .mode)) (p .seeds));
     }
+    ∷ record {
+      tag = 6;
+      refusal = 45;
+      due = λ p. 4;
+      with = λ p s.
+          record { masks = p .masks; level = p .level; mode = p .mode; k = p .k; seeds = p .seeds; floor = ofBits binary32 (number s) };
+      tested = λ p. one 4 (floorUnder (p .level) (p .floor));
+      also = noMore;
+      bytes = λ p. wordBytes (toBits binary32 (p .floor));
+    }
     ∷ []
 
--- all numbers zero, D +0.0
+-- all numbers zero, D and the floor +0.0
 abbrev pub blank : Profile
-blank = record { masks = replicate 8 0; level = zeroPart; mode = 0; k = 0; seeds = replicate 48 0 }
+blank = record { masks = replicate 8 0; level = zeroPart; mode = 0; k = 0; seeds = replicate 48 0; floor = zeroPart }
 
 -- ---- a profile passed as a value
 
--- what every value of the declared type has, by its type: eight masks, an f32, 48 seeds
+-- what every value of the declared type has, by its type: eight masks, an f32, 48 seeds, an f32
 pub record Shape (P : Profile) : Type 0 where
   pub masks : length (P .masks) ≡ 8
   pub level : T (fits binary32 (P .level))
   pub seeds : length (P .seeds) ≡ 48
+  pub floor : T (fits binary32 (P .floor))
 
 -- a value all of whose numbers stand in its bytes: masks and seeds fit their four bytes, as an u32 does, and no unused seed is left out
 pub record Whole (P : Profile) : Type 0 where
@@ -242,7 +262,7 @@ unfoldable pub written : Profile → List ℕ
 written p = fieldBytes fields p
 
 abbrev pub largest : ℕ
-largest = 245
+largest = 252
 
 abbrev pub writing : Profile → Writing
 writing p =

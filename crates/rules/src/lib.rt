@@ -32,9 +32,10 @@ pub struct Profile {
     pub mode: u8,
     pub k: u8,
     pub seeds: [u32; 48],
+    pub floor: f32,
 }
 
-// What a call answers: a number of the table, and the place. At 40 to 44, which name a field of the profile, that is the byte where the field's
+// What a call answers: a number of the table, and the place. At 40 to 45, which name a field of the profile, that is the byte where the field's
 // first faulty number begins; at every other number it is zero.
 pub struct Answer {
     pub number: u32,
@@ -50,7 +51,7 @@ pub enum Outcome {
     NoCodeword,
 }
 
-// What reading a profile answers: at every number but 0 the profile has all numbers zero and D +0.0. The place is an answer's.
+// What reading a profile answers: at every number but 0 the profile has all numbers zero, D and the floor +0.0. The place is an answer's.
 pub struct Reading {
     pub number: u32,
     pub place: usize,
@@ -61,7 +62,7 @@ pub struct Reading {
 pub struct Writing {
     pub number: u32,
     pub place: usize,
-    pub bytes: [u8; 245],
+    pub bytes: [u8; 252],
     pub count: usize,
 }
 
