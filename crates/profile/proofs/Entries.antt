@@ -1,4 +1,4 @@
--- The five entries of the table of fields obey the laws of a field, and a profile that is filled with the fields of P is P.
+-- The six entries of the table of fields obey the laws of a field, and a profile that is filled with the fields of P is P.
 use mathlib.Core.Path.{_≡_, refl, sym, ap, ap₂, _∙_}
 use mathlib.Core.Bool.{Bool, true, false, not, _&&_, _||_}
 use mathlib.Core.List.{List, [], _∷_, _++_}
@@ -8,7 +8,7 @@ use mathlib.Core.Logic.{_⊎_, inl, inr, ⊎-elim}
 use mir.Facts.{or-yes}
 use lib.Dec.{T, eqb, ltb, ltb→lt, eqb→eq, lit<}
 use native.Mathlib.Decide.{decLt}
-use lib.Ieee.{Float, nan, inf, fin, binary32, fits, ofBits, toBits, isNan, lt, eq, le}
+use lib.Ieee.{Float, nan, inf, fin, binary32, fits, ofBits, toBits, isNan, add, lt, eq, le}
 use lib.Ieee.Bits.{ofBits-toBits, toBits-lt, toBits-ofBits}
 use lib.Ieee.Fits.{and-l, and-r}
 use lib.ListN.{length, take, drop, replicate, take-append-drop, length-drop, length-replicate, getD-replicate, List·getD-eq-default}
@@ -18,7 +18,7 @@ use Rattle.rules.specs.Outer.{isK}
 use Rattle.rules.specs.Modes.{isMode, slots}
 use Rattle.modes.proofs.Figures.{figures}
 use Rattle.rules.specs.Answers.{namesField}
-use Rattle.rules.specs.Profile.{number, words, allBytes, wordBytes, each, in20, isLevel, sends, levelInMode, only, fields, blank}
+use Rattle.rules.specs.Profile.{number, words, allBytes, wordBytes, each, in20, isLevel, isFloor, floorUnder, sends, levelInMode, only, fields, blank}
 use Rattle.rules.specs.declared.Answer.{Answer}
 use Rattle.rules.specs.declared.Profile.{Profile}
 use Rattle.rules.specs.Profile.{Shape, Whole}
@@ -46,25 +46,31 @@ byte-written [] e = absurd (omega arith)
 byte-written (x ∷ []) e = ap (λ (y : ℕ). y ∷ []) (byte-read x)
 byte-written (x ∷ y ∷ s) e = absurd (omega arith)
 
--- ---- the level
+-- ---- the level and the floor
 
-not-nan : (a : Float) → T (isLevel a) → T (not (isNan a))
+level-not-nan : (a : Float) → T (isLevel a) → T (not (isNan a))
 unfolding isNan le lt eq
-not-nan nan t = and-r (le (ofBits binary32 0x0080_0000) nan) false t
-not-nan (inf s) t = tt
-not-nan (fin s m e) t = tt
+level-not-nan nan t = and-r (le (ofBits binary32 0x0080_0000) nan) false t
+level-not-nan (inf s) t = tt
+level-not-nan (fin s m e) t = tt
 
-level-read : (a : Float) → T (fits binary32 a) → ofBits binary32 (number (wordBytes (toBits binary32 a))) ≡ a
-level-read a h = ap (ofBits binary32) (word-read (toBits binary32 a) (toBits-lt binary32 a h)) ∙ ofBits-toBits binary32 a h
+floor-not-nan : (level a : Float) → T (floorUnder level a) → T (not (isNan a))
+unfolding isNan add le lt eq
+floor-not-nan level nan t = and-r (isFloor nan) false t
+floor-not-nan level (inf s) t = tt
+floor-not-nan level (fin s m e) t = tt
 
-level-written : (s : List ℕ)
+part-read : (a : Float) → T (fits binary32 a) → ofBits binary32 (number (wordBytes (toBits binary32 a))) ≡ a
+part-read a h = ap (ofBits binary32) (word-read (toBits binary32 a) (toBits-lt binary32 a h)) ∙ ofBits-toBits binary32 a h
+
+part-written : (s : List ℕ)
     → length s ≡ 4
     → Bytes s
-    → T (isLevel (ofBits binary32 (number s)))
+    → T (not (isNan (ofBits binary32 (number s))))
     → wordBytes (toBits binary32 (ofBits binary32 (number s))) ≡ s
-level-written s e b g =
+part-written s e b n =
     let w = word-written s e b in
-    ap wordBytes (toBits-ofBits binary32 (number s) (w .0) (not-nan (ofBits binary32 (number s)) g)) ∙ w .1
+    ap wordBytes (toBits-ofBits binary32 (number s) (w .0) n) ∙ w .1
 
 -- ---- the seeds
 
@@ -131,7 +137,9 @@ laws =
       short = λ P. omega arith;
       measured = λ P S. refl;
       each = λ P g. all-bytes (toBits binary32 (P .level) ∷ []);
-      back = λ p s e b g. level-written s e b (single (isLevel (ofBits binary32 (number s))) true g);
+      back = λ p s e b g.
+          let a = ofBits binary32 (number s) in
+          part-written s e b (level-not-nan a (single (isLevel a) true g));
     }
     & record {
       tagged = omega arith;
@@ -160,6 +168,17 @@ laws =
       each = λ P g. all-bytes (take (slots (P .mode)) (P .seeds));
       back = λ p s e b g. seeds-written (slots (p .mode)) s e b;
     }
+    & record {
+      tagged = omega arith;
+      named = tt;
+      also-named = λ P. inl refl;
+      short = λ P. omega arith;
+      measured = λ P S. refl;
+      each = λ P g. all-bytes (toBits binary32 (P .floor) ∷ []);
+      back = λ p s e b g.
+          let a = ofBits binary32 (number s) in
+          part-written s e b (floor-not-nan (p .level) a (single (floorUnder (p .level) a) true g));
+    }
     & end
 
 pub ordered : Ordered fields
@@ -173,10 +192,11 @@ whole P S w =
     ∙ seeds-read (P .mode) (P .seeds) (S .seeds) (w .seeds) (w .unused) in
     λ i. record {
       masks = words-read 8 (P .masks) (S .masks) (w .masks) i;
-      level = level-read (P .level) (S .level) i;
+      level = part-read (P .level) (S .level) i;
       mode = byte-read (P .mode) i;
       k = byte-read (P .k) i;
       seeds = seeds i;
+      floor = part-read (P .floor) (S .floor) i;
     }
 
 -- a value in range is whole

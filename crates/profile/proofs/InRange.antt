@@ -1,4 +1,4 @@
--- What a profile in range has: a level, a mode, a level that this mode can send, a K.
+-- What a profile in range has: a level, a mode, a level that this mode can send, a K, a floor under the level.
 use mathlib.Core.Bool.{Bool, true, false, _&&_}
 use lib.Dec.{T, eqb}
 use lib.Ieee.Fits.{and-r}
@@ -6,10 +6,10 @@ use Rattle.rules.specs.Bits.{pick}
 use Rattle.rules.specs.Modes.{isMode, partBits}
 use Rattle.rules.specs.Outer.{isK}
 use Rattle.rules.specs.Profile as rule
-use Rattle.rules.specs.Profile.{isLevel, inRange, levelInMode, only}
+use Rattle.rules.specs.Profile.{isLevel, floorUnder, inRange, levelInMode, only}
 use Rattle.rules.specs.declared.Answer.{Answer}
 use Rattle.rules.specs.declared.Profile.{Profile}
-use Rattle.laws.specs.Levels.{Good}
+use Rattle.laws.specs.Decisions.{Good}
 use Rattle.profile.proofs.AtFault.{fine}
 use Rattle.profile.proofs.Entries.{single}
 
@@ -18,6 +18,7 @@ pub record Ranges (P : Profile) : Type 0 where
   pub mode : T (isMode (P .mode))
   pub sends : T (rule.sends (P .mode) (P .level))
   pub k : T (isK (P .k))
+  pub floor : T (floorUnder (P .level) (P .floor))
 
 none-sends : (P : Profile) → T (eqb (levelInMode P .number) 0) → T (rule.sends (P .mode) (P .level))
 none-sends P = go (rule.sends (P .mode) (P .level))
@@ -34,8 +35,9 @@ ranges P h =
       mode = single (isMode (P .mode)) (eqb (levelInMode P .number) 0) (g .1 .1 .0);
       sends = none-sends P (and-r (isMode (P .mode) && true) (eqb (levelInMode P .number) 0) (g .1 .1 .0));
       k = single (isK (P .k)) true (g .1 .1 .1 .0);
+      floor = single (floorUnder (P .level) (P .floor)) true (g .1 .1 .1 .1 .1 .0);
     }
 
 -- so what is sent at its level decides to what was sent
-pub good-level : (P : Profile) → T (inRange P) → Good (partBits (P .mode)) (P .level)
-good-level P h = let r = ranges P h in (r .level, r .sends)
+pub good-level : (P : Profile) → T (inRange P) → Good (partBits (P .mode)) (P .level) (P .floor)
+good-level P h = let r = ranges P h in (r .level, r .sends, r .floor)

@@ -117,7 +117,7 @@ not-22 s =
     table-answer (λ (r : Reading). ¬ (r .number ≡ 22)) (λ p e. omega arith) (λ e. omega arith) (λ e. omega arith) (λ e. omega arith)
     (λ e. omega arith) (λ a t e. subst (λ (k : ℕ). T (namesField k)) e t) fields 0 blank s laws
 
-pub written-length : (P : Profile) → T (inRange P) → Shape P → length (written P) ≡ 53 + 4 * slots (P .mode)
+pub written-length : (P : Profile) → T (inRange P) → Shape P → length (written P) ≡ 60 + 4 * slots (P .mode)
 unfolding written
 written-length P t S = table-length fields P laws S ∙ omega arith
 

@@ -28,7 +28,8 @@ bytes-due (suc (suc (suc zero))) p z h = refl
 bytes-due (suc (suc (suc (suc zero)))) p z h =
     bytes-length (take (slots (p .mode)) (p .seeds))
     ∙ ap (λ (n : ℕ). 4 * n) (length-take-le (slots (p .mode)) (p .seeds) (omega (arith, slots-most (p .mode), z .seeds)))
-bytes-due (suc (suc (suc (suc (suc i))))) p z h = absurd (omega arith)
+bytes-due (suc (suc (suc (suc (suc zero))))) p z h = refl
+bytes-due (suc (suc (suc (suc (suc (suc i)))))) p z h = absurd (omega arith)
 
 pub written-most : (p : Profile) → Shape p → length (written p) ≤ largest
 unfolding written field

@@ -10,7 +10,7 @@ use super::numbers;
 use rules::Answer;
 use rules::Profile;
 
-pub(crate) const FIELDS: usize = 5;
+pub(crate) const FIELDS: usize = 6;
 
 // The length due after what was read before the field.
 pub(crate) fn due(i: usize, p: Profile) -> usize
@@ -22,7 +22,8 @@ pub(crate) fn due(i: usize, p: Profile) -> usize
         1 => 4,
         2 => 1,
         3 => 1,
-        _ => 4 * modes::slot_count(p.mode),
+        4 => 4 * modes::slot_count(p.mode),
+        _ => 4,
     }
 }
 
@@ -39,10 +40,11 @@ pub(crate) fn fault(i: usize, at: usize, p: Profile) -> Answer
         1 => faults::single(ranges::level_good(p.level), 41, at + 3),
         2 => faults::mode_fault(at + 3, p.mode, p.level),
         3 => faults::single(ranges::k_good(p.k), 43, at + 3),
-        _ => {
+        4 => {
             let seeds = p.seeds;
             faults::several(44, at + 3, ranges::seeds_passing(p.mode, seeds), 48)
         }
+        _ => faults::single(ranges::floor_good(p.level, p.floor), 45, at + 3),
     }
 }
 
@@ -58,7 +60,7 @@ pub(crate) fn with_value(i: usize, mut p: Profile, s: &[u8]) -> Profile
             p.masks = masks;
         }
         1 => {
-            let level = numbers::level_of(s);
+            let level = numbers::part_of(s);
             p.level = level;
         }
         2 => {
@@ -69,9 +71,13 @@ pub(crate) fn with_value(i: usize, mut p: Profile, s: &[u8]) -> Profile
             let k = numbers::byte_of(s);
             p.k = k;
         }
-        _ => {
+        4 => {
             let seeds = numbers::seeds_of(p.mode, s);
             p.seeds = seeds;
+        }
+        _ => {
+            let floor = numbers::part_of(s);
+            p.floor = floor;
         }
     }
     p
@@ -91,10 +97,11 @@ pub(crate) fn put_value(i: usize, p: Profile, s: &mut [u8], at: usize)
         1 => numbers::put_word(s, at, parts::bits_of_part(p.level)),
         2 => s[at] = p.mode,
         3 => s[at] = p.k,
-        _ => {
+        4 => {
             let n = modes::slot_count(p.mode);
             let seeds = p.seeds;
             numbers::put_words(s, at, &seeds[..n]);
         }
+        _ => numbers::put_word(s, at, parts::bits_of_part(p.floor)),
     }
 }

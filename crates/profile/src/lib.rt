@@ -18,7 +18,7 @@ use rules::Reading;
 use rules::Writing;
 
 // The largest size of a profile.
-const LARGEST: usize = 245;
+const LARGEST: usize = 252;
 
 // A number that names no field: the place is zero.
 pub fn only(number: u32) -> Answer
@@ -44,7 +44,7 @@ pub fn fault(p: Profile) -> Answer
     only(0)
 }
 
-// All numbers zero, D +0.0.
+// All numbers zero, D and the floor +0.0.
 fn blank() -> Profile
     ensures { λ r. ⌜ r ≡ blankOf ⌝ }
 {
@@ -54,6 +54,7 @@ fn blank() -> Profile
         mode: 0,
         k: 0,
         seeds: [0u32; 48],
+        floor: 0.0,
     }
 }
 

@@ -58,8 +58,8 @@ pub(crate) fn byte_of(s: &[u8]) -> u8
     s[0]
 }
 
-// D in field 2's value.
-pub(crate) fn level_of(s: &[u8]) -> f32
+// The f32 in a value of four bytes, D or the floor.
+pub(crate) fn part_of(s: &[u8]) -> f32
     requires { ⌜ length (now s) ≡ 4 ⌝ }
     ensures { λ r. ⌜ r ≡ Ieee.ofBits binary32 (number (now (s .entry))) ⌝ }
 {

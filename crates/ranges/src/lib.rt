@@ -5,7 +5,7 @@ ghost use Prim.Native.Nat.{_≤_};
 ghost use lib.Dec.{eqb};
 ghost use lib.ListN.{length, take, drop};
 ghost use Rattle.rules.specs.Outer.{isK};
-ghost use Rattle.rules.specs.Profile.{each, in20, isLevel, sends as sendsOf};
+ghost use Rattle.rules.specs.Profile.{each, floorUnder, in20, isFloor, isLevel, sends as sendsOf};
 ghost use Rattle.rules.specs.Modes.{slots as slotsOf};
 ghost use Rattle.ranges.specs.Ranges.{between, passed};
 
@@ -76,4 +76,18 @@ pub fn seeds_passing(mode: u8, seeds: [u32; 48]) -> usize
         return used;
     }
     n + passing(&seeds[n..], 0, 1)
+}
+
+// Whether a floor is +0.0 (whose bits are zero; -0.0's aren't), or positive and finite.
+fn is_floor(floor: f32) -> bool
+    ensures { λ r. ⌜ r ≡ isFloor floor ⌝ }
+{
+    parts::bits_of_part(floor) == 0 || (0.0 < floor && floor <= MOST)
+}
+
+// Field 6: such a floor, and twice it is at most D; a NaN fails every test.
+pub fn floor_good(level: f32, floor: f32) -> bool
+    ensures { λ r. ⌜ r ≡ floorUnder level floor ⌝ }
+{
+    is_floor(floor) && floor + floor <= level
 }

@@ -16,7 +16,7 @@ abbrev μ-loop : tie.MeasureT-loop
 μ-loop s₀ p at₀ i₀ s at i = many - i
 
 shaped : (c : tie.Start Inv-loop μ-loop) → Shape (c .args .p)
-shaped c = record { masks = search needs; level = search needs; seeds = search needs }
+shaped c = record { masks = search needs; level = search needs; seeds = search needs; floor = search needs }
 
 -- the field has room
 room : (c : tie.After-due Inv-loop μ-loop) → c .before .before .loop .at + 3 + c .due .result ≤ length (c .before .before .loop .s)

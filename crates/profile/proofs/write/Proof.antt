@@ -8,7 +8,7 @@ use Rattle.profile.proofs.write.Statement.{statement}
 use Rattle.profile.proofs.write.Tie as tie
 
 shaped : (c : tie.Start) → Shape (c .args .p)
-shaped c = record { masks = search needs; level = search needs; seeds = search needs }
+shaped c = record { masks = search needs; level = search needs; seeds = search needs; floor = search needs }
 
 fault-requires : tie.Need-fault-requires
 fault-requires c κs = search needs

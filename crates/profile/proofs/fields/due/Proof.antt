@@ -31,10 +31,14 @@ returns-4 c = (rw (c .match .keys4) refl, omega arith)
 
 returns-5 : tie.Need-returns-5
 unfolding field
-returns-5 c =
-    let last : c .before .before .args .i ≡ 4 = omega arith in
-    (rw last (ap (λ n. 4 * n) (c .slot-count .ensures .0)), omega arith)
+returns-5 c = (rw (c .before .match .keys5) (ap (λ n. 4 * n) (c .slot-count .ensures .0)), omega arith)
+
+returns-6 : tie.Need-returns-6
+unfolding field
+returns-6 c =
+    let last : c .before .args .i ≡ 5 = omega arith in
+    (rw last refl, omega arith)
 
 pub due-spec : {M : Type 1} → statement M
 due-spec =
-    tie.close (tie.spec slot-count-requires mul-result returns returns-2 returns-3 returns-4 returns-5)
+    tie.close (tie.spec slot-count-requires mul-result returns returns-2 returns-3 returns-4 returns-5 returns-6)

@@ -10,8 +10,8 @@ use borrow.Author.Needs.{needs}
 use Rattle.profile.proofs.fields.fault.Statement.{statement}
 use Rattle.profile.proofs.fields.fault.Tie as tie
 
--- what is left after the other four
-last : (c : tie.At-match-rest) → c .before .args .i ≡ 4
+-- what is left after the other five
+last : (c : tie.At-match-rest) → c .before .args .i ≡ 5
 last c = omega arith
 
 add-several : tie.Need-add-several
@@ -56,6 +56,15 @@ seeds-passing-requires c κs = search needs
 several-requires-2 : tie.Need-several-requires-2
 several-requires-2 c κs = search needs
 
+floor-good-requires : tie.Need-floor-good-requires
+floor-good-requires c κs = search needs
+
+add-single-3 : tie.Need-add-single-3
+add-single-3 c = search needs
+
+single-requires-3 : tie.Need-single-requires-3
+single-requires-3 c κs = search needs
+
 returns : tie.Need-returns
 unfolding field
 returns c =
@@ -90,7 +99,13 @@ returns-5 c =
     let long : length (a .p .seeds) ≡ 48 = search needs in
     c .several2 .ensures
     ∙ seeds-fault 44 (a .at + 3) (q .seeds-passing .result) (a .p .seeds) (a .p .mode) long (q .seeds-passing .ensures .0)
-    ∙ rw (last (q .before .before)) (alone (field 4) (a .at) (a .p) tt refl)
+    ∙ rw (q .before .before .match .keys5) (alone (field 4) (a .at) (a .p) tt refl)
+
+returns-6 : tie.Need-returns-6
+unfolding field
+returns-6 c =
+    let a = c .before .before .before .args in
+    c .single3 .ensures ∙ rw (c .before .floor-good .ensures, last (c .before .before)) (alone (field 5) (a .at) (a .p) tt refl)
 
 pub fault-spec : {M : Type 1} → statement M
 fault-spec =
@@ -110,8 +125,12 @@ fault-spec =
     add-several-2
     seeds-passing-requires
     several-requires-2
+    floor-good-requires
+    add-single-3
+    single-requires-3
     returns
     returns-2
     returns-3
     returns-4
-    returns-5)
+    returns-5
+    returns-6)

@@ -10,6 +10,10 @@ use borrow.Author.Needs.{needs}
 use Rattle.profile.proofs.fields.put_value.Statement.{statement}
 use Rattle.profile.proofs.fields.put_value.Tie as tie
 
+-- what is left after the other five
+last : (c : tie.At-match-rest) → c .before .before .args .i ≡ 5
+last c = omega arith
+
 slice-aggregate-put-words : tie.Need-slice-aggregate-put-words
 slice-aggregate-put-words c = search needs
 
@@ -60,10 +64,16 @@ unfolding field
 put-words-requires-2 c κs =
     let n = c .before .before .before .slot-count in
     let b = c .before .before .before .before .before .before in
-    let last : b .args .i ≡ 4 = omega arith in
-    let fit : b .args .at + 4 * slots (b .args .p .mode) ≤ length (b .args .s .now) = rw last at (b .pre .1) in
+    let fit : b .args .at + 4 * slots (b .args .p .mode) ≤ length (b .args .s .now) = rw (c .before .before .before .before .match .keys5) at (b .pre .1) in
     let long : length (b .args .p .seeds) ≡ 48 = search needs in
     omega (arith, length-take-le (n .result) (b .args .p .seeds) (omega arith), n .ensures .0)
+
+bits-of-part-requires-2 : tie.Need-bits-of-part-requires-2
+bits-of-part-requires-2 c κs = search needs
+
+put-word-requires-2 : tie.Need-put-word-requires-2
+unfolding field
+put-word-requires-2 c κs = rw (last (c .before .before)) at (c .before .before .before .before .pre .1)
 
 same-length : tie.Need-same-length
 same-length c = search needs
@@ -101,8 +111,17 @@ same-length-5 c = search needs
 returns-5 : tie.Need-returns-5
 unfolding field
 returns-5 c =
-    let last : c .before .before .before .before .before .before .before .before .before .args .i ≡ 4 = omega arith in
-    c .before .before .put-words2 .ensures ∙ rw (last, c .before .before .before .before .before .before .slot-count .ensures .0) refl
+    let n = c .before .before .before .before .before .before in
+    c .before .before .put-words2 .ensures ∙ rw (n .before .match .keys5, n .slot-count .ensures .0) refl
+
+same-length-6 : tie.Need-same-length-6
+same-length-6 c = search needs
+
+returns-6 : tie.Need-returns-6
+unfolding field
+returns-6 c =
+    let b = c .before .before .before in
+    c .before .before .put-word2 .ensures ∙ rw (last (b .before .before), b .bits-of-part2 .ensures) refl
 
 pub put-value-spec : {M : Type 1} → statement M
 put-value-spec =
@@ -118,6 +137,8 @@ put-value-spec =
     array-share-prefix-seeds
     slice-aggregate-put-words-2
     put-words-requires-2
+    bits-of-part-requires-2
+    put-word-requires-2
     same-length
     returns
     same-length-2
@@ -127,4 +148,6 @@ put-value-spec =
     same-length-4
     returns-4
     same-length-5
-    returns-5)
+    returns-5
+    same-length-6
+    returns-6)

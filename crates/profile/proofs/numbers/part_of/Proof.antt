@@ -3,8 +3,8 @@ use mathlib.Core.Path.{sym, _∙_, ap}
 use lib.Ieee.{binary32, ofBits}
 use Rattle.profile.proofs.Values.{number-four}
 use borrow.Author.Needs.{needs}
-use Rattle.profile.proofs.numbers.level_of.Statement.{statement}
-use Rattle.profile.proofs.numbers.level_of.Tie as tie
+use Rattle.profile.proofs.numbers.part_of.Statement.{statement}
+use Rattle.profile.proofs.numbers.part_of.Tie as tie
 
 shared-slice-read-part-of-bytes : tie.Need-shared-slice-read-part-of-bytes
 shared-slice-read-part-of-bytes c = search needs
@@ -26,8 +26,8 @@ returns c =
     let b = c .before .before .before .before .before .before in
     c .part-of-bytes .ensures ∙ ap (ofBits binary32) (sym (number-four (b .args .s .now) (b .pre)))
 
-pub level-of-spec : {M : Type 1} → statement M
-level-of-spec =
+pub part-of-spec : {M : Type 1} → statement M
+part-of-spec =
     tie.close
     (tie.spec
     shared-slice-read-part-of-bytes
