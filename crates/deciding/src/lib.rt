@@ -18,32 +18,34 @@ pub struct Decision {
 }
 
 // The sign bit of a part, and for a doubtful one the number given.
-fn sign_of(part: f32, doubt: u8) -> u8
+fn sign_of(floor: f32, part: f32, doubt: u8) -> u8
     requires { ⌜ 1 ≤ doubt ⌝ }
-    ensures { λ r. ⌜ (r ≡ signOr doubt part) × (r ≤ doubt) ⌝ }
+    ensures { λ r. ⌜ (r ≡ signOr doubt floor part) × (r ≤ doubt) ⌝ }
 {
-    if part > 0.0 {
+    if part > floor {
         return 0;
     }
-    if part < 0.0 {
+    if part < -floor {
         return 1;
     }
     doubt
 }
 
 // Twice the size bit of a part, and 4 for a doubtful one.
-fn size_of(level: f32, part: f32) -> u8
-    ensures { λ r. ⌜ (r ≡ 2 * points.sizeOf level part) × (r < 5) ⌝ }
+fn size_of(level: f32, floor: f32, part: f32) -> u8
+    ensures { λ r. ⌜ (r ≡ 2 * points.sizeOf level floor part) × (r < 5) ⌝ }
 {
     let line = 2.0 * level;
-    if part > line {
+    let near = line - floor;
+    let far = line + floor;
+    if part > far {
         return 0;
     }
-    if part < -line {
+    if part < -far {
         return 0;
     }
-    if part > -line {
-        if part < line {
+    if part > -near {
+        if part < near {
             return 2;
         }
     }
@@ -51,30 +53,31 @@ fn size_of(level: f32, part: f32) -> u8
 }
 
 // Both bits as a number. Where one is doubtful the sum is 4 or more: so no test of the two is needed, and many parts are decided at a time.
-fn size_and_sign(level: f32, part: f32) -> u8
-    ensures { λ r. ⌜ (r ≡ points.decide 2 level part) × (r < 5) ⌝ }
+fn size_and_sign(level: f32, floor: f32, part: f32) -> u8
+    ensures { λ r. ⌜ (r ≡ points.decide 2 level floor part) × (r < 5) ⌝ }
 {
-    let sum = size_of(level, part) + sign_of(part, 4);
+    let sum = size_of(level, floor, part) + sign_of(floor, part, 4);
     if sum > 4 { 4 } else { sum }
 }
 
 // What a part decides to: the number that its bits make, and after the last such number the one for a doubtful part.
-pub fn decide(mode: u8, level: f32, part: f32) -> u8
-    ensures { λ r. ⌜ (r ≡ points.decide (partBits mode) level part) × (r < 5) ⌝ }
+pub fn decide(mode: u8, level: f32, floor: f32, part: f32) -> u8
+    ensures { λ r. ⌜ (r ≡ points.decide (partBits mode) level floor part) × (r < 5) ⌝ }
 {
     if modes::part_bits(mode) == 1 {
-        return sign_of(part, 2);
+        return sign_of(floor, part, 2);
     }
-    size_and_sign(level, part)
+    size_and_sign(level, floor, part)
 }
 
-pub fn decide_point(mode: u8, level: f32, p: Point) -> Decision
-    ensures { λ r. ⌜ (r .first ≡ points.decide (partBits mode) level (p .first)) × (r .second ≡ points.decide (partBits mode) level (p .second))
+pub fn decide_point(mode: u8, level: f32, floor: f32, p: Point) -> Decision
+    ensures { λ r. ⌜ (r .first ≡ points.decide (partBits mode) level floor (p .first))
+        × (r .second ≡ points.decide (partBits mode) level floor (p .second))
         × (r .first < 5) × (r .second < 5) ⌝ }
 {
     Decision {
-        first: decide(mode, level, p.first),
-        second: decide(mode, level, p.second),
+        first: decide(mode, level, floor, p.first),
+        second: decide(mode, level, floor, p.second),
     }
 }
 
@@ -90,40 +93,47 @@ fn point_in(firsts: &[f32], seconds: &[f32], c: usize) -> Point
 }
 
 // A cell's decisions in one byte, where a part has one bit, and where it has two.
-fn byte_of_signs(p: Point) -> u8
-    ensures { λ r. ⌜ ((level : Float) → r ≡ cellByte 1 level (p .first) (p .second)) ⌝ }
+fn byte_of_signs(floor: f32, p: Point) -> u8
+    ensures { λ r. ⌜ ((level : Float) → r ≡ cellByte 1 level floor (p .first) (p .second)) ⌝ }
 {
-    sign_of(p.first, 2) + 3 * sign_of(p.second, 2)
+    sign_of(floor, p.first, 2) + 3 * sign_of(floor, p.second, 2)
 }
 
-fn byte_of_sizes(level: f32, p: Point) -> u8
-    ensures { λ r. ⌜ r ≡ cellByte 2 level (p .first) (p .second) ⌝ }
+fn byte_of_sizes(level: f32, floor: f32, p: Point) -> u8
+    ensures { λ r. ⌜ r ≡ cellByte 2 level floor (p .first) (p .second) ⌝ }
 {
-    size_and_sign(level, p.first) + 5 * size_and_sign(level, p.second)
+    size_and_sign(level, floor, p.first) + 5 * size_and_sign(level, floor, p.second)
 }
 
 // What each cell decides to, in a byte each. Each of the two is a loop of its own, so that many cells are decided at a time.
-fn decide_signs(firsts: &[f32], seconds: &[f32], out: &mut [u8])
+fn decide_signs(floor: f32, firsts: &[f32], seconds: &[f32], out: &mut [u8])
     requires { ⌜ (length (now firsts) ≡ length (now out)) × (length (now seconds) ≡ length (now out)) ⌝ }
-    ensures { λ _. ⌜ ((level : Float) → Holds 0 (length (now (out .entry))) (byteOf 1 level (now (firsts .entry)) (now (seconds .entry))) (now (out .exit))) ⌝ }
+    ensures { λ _. ⌜ ((level : Float) → Holds 0 (length (now (out .entry))) (byteOf 1 level floor (now (firsts .entry)) (now (seconds .entry))) (now (out .exit))) ⌝ }
 {
     for c in 0..out.len() {
-        out[c] = byte_of_signs(point_in(firsts, seconds, c));
+        out[c] = byte_of_signs(floor, point_in(firsts, seconds, c));
     }
 }
 
-fn decide_sizes(level: f32, firsts: &[f32], seconds: &[f32], out: &mut [u8])
+fn decide_sizes(level: f32, floor: f32, firsts: &[f32], seconds: &[f32], out: &mut [u8])
     requires { ⌜ (length (now firsts) ≡ length (now out)) × (length (now seconds) ≡ length (now out)) ⌝ }
-    ensures { λ _. ⌜ Holds 0 (length (now (out .entry))) (byteOf 2 level (now (firsts .entry)) (now (seconds .entry))) (now (out .exit)) ⌝ }
+    ensures { λ _. ⌜ Holds 0 (length (now (out .entry))) (byteOf 2 level floor (now (firsts .entry)) (now (seconds .entry))) (now (out .exit)) ⌝ }
 {
     for c in 0..out.len() {
-        out[c] = byte_of_sizes(level, point_in(firsts, seconds, c));
+        out[c] = byte_of_sizes(level, floor, point_in(firsts, seconds, c));
     }
 }
 
 // Answers whether the lists are of one length; else nothing is written.
-pub fn decide_cells(mode: u8, level: f32, firsts: &[f32], seconds: &[f32], out: &mut [u8]) -> bool
-    ensures { λ r. ⌜ DecideRule mode level (now (firsts .entry)) (now (seconds .entry)) (now (out .entry)) (now (out .exit)) r ⌝ }
+pub fn decide_cells(
+    mode: u8,
+    level: f32,
+    floor: f32,
+    firsts: &[f32],
+    seconds: &[f32],
+    out: &mut [u8],
+) -> bool
+    ensures { λ r. ⌜ DecideRule mode level floor (now (firsts .entry)) (now (seconds .entry)) (now (out .entry)) (now (out .exit)) r ⌝ }
 {
     if firsts.len() != out.len() {
         return false;
@@ -132,9 +142,9 @@ pub fn decide_cells(mode: u8, level: f32, firsts: &[f32], seconds: &[f32], out: 
         return false;
     }
     if modes::part_bits(mode) == 1 {
-        decide_signs(firsts, seconds, out);
+        decide_signs(floor, firsts, seconds, out);
         return true;
     }
-    decide_sizes(level, firsts, seconds, out);
+    decide_sizes(level, floor, firsts, seconds, out);
     true
 }

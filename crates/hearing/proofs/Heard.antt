@@ -1,4 +1,4 @@
--- What is sent at a level decides to the bits that were sent; a block's own cells are all that is heard.
+-- What is sent with a good profile decides to the bits that were sent; a block's own cells are all that is heard.
 use mathlib.Core.Path.{_≡_, _∙_, ap, ap₂}
 use mathlib.Core.Bool.{Bool, true, false}
 use mathlib.Core.List.{List}
@@ -20,7 +20,7 @@ use Rattle.rules.specs.declared.Profile.{Profile}
 use Rattle.rules.specs.declared.Cell.{Cell}
 use Rattle.rules.specs.declared.Carried.{Carried}
 use Rattle.rules.specs.declared.Carried.the-variants.{PointOf}
-use Rattle.laws.specs.Levels.{Good, decide-part}
+use Rattle.laws.specs.Decisions.{Good, decide-part}
 use Rattle.modes.proofs.Figures.{figures, part-bounds}
 use Rattle.cells.proofs.Inverse.{carried-cell}
 use Rattle.hearing.proofs.Reading.{point-of-bit}
@@ -48,16 +48,16 @@ unfolding heard
 heard-own P f s f' s' a b t i ht hi =
     let w = partBits (P .mode) in
     let inside = point-of-bit (P .mode) i hi in
-    ap (λ (x : Float). bitIn w (decide w (P .level) x) (i % w))
+    ap (λ (x : Float). bitIn w (decide w (P .level) (P .floor) x) (i % w))
     (ap₂ (pick (eqb (i / w % 2) 0)) (a t (i / w / 2) ht inside) (b t (i / w / 2) ht inside))
 
 -- the cell that is written for point i of block slot t
 abbrev pub cellSent : ℕ → Float → (ℕ → ℕ → ℕ) → ℕ → ℕ → Cell
 cellSent m level bits t i = cellFor (partBits m) level bits (carried m (symbolOf t) (pointCell t i))
 
--- what is sent at a good level is heard as it was sent
+-- at a good level and floor what is sent is heard as it was sent
 pub heard-sent : (P : Profile) (bits : ℕ → ℕ → ℕ) (f s : List Float)
-    → Good (partBits (P .mode)) (P .level)
+    → Good (partBits (P .mode)) (P .level) (P .floor)
     → ((t i : ℕ) → bits t i < 2)
     → ((t i : ℕ) → t < slots (P .mode) → i < 500 → getD f (gridCell t i) zeroPart ≡ firstPart (cellSent (P .mode) (P .level) bits t i))
     → ((t i : ℕ) → t < slots (P .mode) → i < 500 → getD s (gridCell t i) zeroPart ≡ secondPart (cellSent (P .mode) (P .level) bits t i))
@@ -105,11 +105,11 @@ heard-sent P bits f s good hb hf hs t i ht hi = go (ℕ-discrete (n % 2) 0)
     odd : ¬ (n % 2 ≡ 0) → 2 * w * j + (w + k) ≡ i
     odd e = let twice : n ≡ 2 * j + 1 = omega arith in omega (arith, whole, ap (λ (x : ℕ). w * x) twice)
 
-    decided : (x : Float) (r : ℕ → ℕ) → ((b : ℕ) → r b < 2) → x ≡ part w level r → bitIn w (decide w level x) k ≡ r k
+    decided : (x : Float) (r : ℕ → ℕ) → ((b : ℕ) → r b < 2) → x ≡ part w level r → bitIn w (decide w level (P .floor) x) k ≡ r k
     decided x r h e =
-        ap (λ (y : Float). bitIn w (decide w level y) k) e
-        ∙ decide-part w level r (figures m .part) good h k (mod-lt i (part-bounds m .0))
+        ap (λ (y : Float). bitIn w (decide w level (P .floor) y) k) e
+        ∙ decide-part w level (P .floor) r (figures m .part) good h k (mod-lt i (part-bounds m .0))
 
-    go : Dec (n % 2 ≡ 0) → bitIn w (decide w level (partOf n f s (gridCell t j))) k ≡ bits t i
+    go : Dec (n % 2 ≡ 0) → bitIn w (decide w level (P .floor) (partOf n f s (gridCell t j))) k ≡ bits t i
     go (yes e) = simp (eq-eqb (n % 2) 0 e) (decided _ (λ b. bits t (2 * w * j + b)) (λ b. hb t _) first ∙ ap (bits t) (even e))
     go (no ne) = simp (ne-eqb (n % 2) 0 ne) (decided _ (λ b. bits t (2 * w * j + (w + b))) (λ b. hb t _) second ∙ ap (bits t) (odd ne))

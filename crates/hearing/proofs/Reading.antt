@@ -17,7 +17,7 @@ use Rattle.rules.specs.declared.Profile.{Profile}
 use Rattle.rules.specs.Pieces.{choices, byteAt, decisionIn, keptBit}
 use Rattle.laws.specs.Holds.{Holds}
 use Rattle.laws.specs.Filled.{upTo, holds-next}
-use Rattle.laws.specs.Levels.{decide-le}
+use Rattle.laws.specs.Decisions.{decide-le}
 use Rattle.laws.specs.Parts.{part-number, part-place, part-within}
 use Rattle.modes.proofs.Figures.{figures, part-bounds}
 use Rattle.cells.proofs.Inverse.{point-cell-lt}
@@ -112,8 +112,8 @@ module _ (n a b : ℕ) (h : a < n) where
   byte-below l = omega (arith, part-within n b n l)
 
 module _ (P : Profile) where
-  decided-lt : (a : Float) → decide (partBits (P .mode)) (P .level) a < choices (partBits (P .mode))
-  decided-lt a = omega (arith, decide-le (partBits (P .mode)) (P .level) a (figures (P .mode) .part))
+  decided-lt : (a : Float) → decide (partBits (P .mode)) (P .level) (P .floor) a < choices (partBits (P .mode))
+  decided-lt a = omega (arith, decide-le (partBits (P .mode)) (P .level) (P .floor) a (figures (P .mode) .part))
 
   -- it holds two decisions
   pub byte-lt : (f s : List Float) (c : ℕ) → byteAt P f s c < choices (partBits (P .mode)) * choices (partBits (P .mode))
@@ -137,13 +137,13 @@ module _ (P : Profile) where
       byte : cells c ≡ byteAt P f s c
       byte = each c (grid-cell-lt (P .mode) t (n / 2) h (point-of-bit (P .mode) i l))
 
-      first : cells c % choices w ≡ decide w (P .level) (getD f c zeroPart)
+      first : cells c % choices w ≡ decide w (P .level) (P .floor) (getD f c zeroPart)
       first = ap (λ (x : ℕ). x % choices w) byte ∙ byte-first (choices w) _ _ (decided-lt (getD f c zeroPart))
 
-      second : cells c / choices w ≡ decide w (P .level) (getD s c zeroPart)
+      second : cells c / choices w ≡ decide w (P .level) (P .floor) (getD s c zeroPart)
       second = ap (λ (x : ℕ). x / choices w) byte ∙ byte-second (choices w) _ _ (decided-lt (getD f c zeroPart))
 
-      go : Dec (n % 2 ≡ 0) → bitIn w (decisionIn w (cells c) n) (i % w) ≡ bitIn w (decide w (P .level) (partOf n f s c)) (i % w)
+      go : Dec (n % 2 ≡ 0) → bitIn w (decisionIn w (cells c) n) (i % w) ≡ bitIn w (decide w (P .level) (P .floor) (partOf n f s c)) (i % w)
       go (yes e) = simp (eq-eqb (n % 2) 0 e) (ap (λ (d : ℕ). bitIn w d (i % w)) first)
       go (no ne) = simp (ne-eqb (n % 2) 0 ne) (ap (λ (d : ℕ). bitIn w d (i % w)) second)
 

@@ -23,7 +23,7 @@ use Rattle.rules.specs.Block.{Answered, Delivered}
 use Rattle.rules.specs.Pieces.{newState, seen, cellIn, choices, cellByte, isState, byteAt, fedCell, Put, FeedRule, Fed, LeftBy, asking, AskRule}
 use Rattle.rules.specs.declared.Profile.{Profile}
 use Rattle.rules.specs.declared.Receipt.{Receipt}
-use Rattle.laws.specs.Levels.{Good, decide-number, decide-zero}
+use Rattle.laws.specs.Decisions.{Good, decide-number, decide-zero}
 use Rattle.modes.proofs.Figures.{figures}
 use Rattle.hearing.proofs.Reading.{byte-lt}
 use Rattle.profile.proofs.InRange.{good-level}
@@ -77,17 +77,17 @@ byte-of n b h = (mod-lt b some, div-lt-iff-lt-mul {y = n} some .1 h, omega (arit
         go (inl e) = absurd (omega (arith, subst (λ (k : ℕ). b < k * k) e h))
         go (inr l) = l
 
-module _ (w : ℕ) (level : Float) (two : (w ≡ 1) ⊎ (w ≡ 2)) (good : Good w level) where
+module _ (w : ℕ) (level floor : Float) (two : (w ≡ 1) ⊎ (w ≡ 2)) (good : Good w level floor) where
   partFor : ℕ → Float
   partFor d = pick (eqb d (2 ^ w)) zeroPart (part w level (bitOf w d))
 
-  part-decides : (d : ℕ) → d < choices w → decide w level (partFor d) ≡ d
+  part-decides : (d : ℕ) → d < choices w → decide w level floor (partFor d) ≡ d
   unfolding partFor
   part-decides d h = go (ℕ-discrete d (2 ^ w))
     where
-      go : Dec (d ≡ 2 ^ w) → decide w level (partFor d) ≡ d
-      go (yes e) = rw (eq-eqb d (2 ^ w) e) (decide-zero w level two good ∙ sym e)
-      go (no ne) = rw (ne-eqb d (2 ^ w) ne) (decide-number w level d two good (omega arith))
+      go : Dec (d ≡ 2 ^ w) → decide w level floor (partFor d) ≡ d
+      go (yes e) = rw (eq-eqb d (2 ^ w) e) (decide-zero w level floor two good ∙ sym e)
+      go (no ne) = rw (ne-eqb d (2 ^ w) ne) (decide-number w level floor d two good (omega arith))
 
 -- the first n that a function says, as a list
 abbrev made : ℕ → (ℕ → Float) → List Float
@@ -133,7 +133,7 @@ module _ (P : Profile) where
 
   -- the byte of two parts
   abbrev byte : Float → Float → ℕ
-  byte = cellByte w (P .level)
+  byte = cellByte w (P .level) (P .floor)
 
   -- ---- what fed pieces leave
 
@@ -215,14 +215,14 @@ module _ (P : Profile) where
 
   -- one piece from the new state on leaves a state that passes the test
   module _ (state : List ℕ) (is : IsState (P .mode) state) (range : T (inRange P)) where
-    good : Good w (P .level)
+    good : Good w (P .level) (P .floor)
     good = good-level P range
 
     firsts : List Float
-    firsts = made (seen state) (λ c. partFor w (P .level) two good (cellIn state c % choices w))
+    firsts = made (seen state) (λ c. partFor w (P .level) (P .floor) two good (cellIn state c % choices w))
 
     seconds : List Float
-    seconds = made (seen state) (λ c. partFor w (P .level) two good (cellIn state c / choices w))
+    seconds = made (seen state) (λ c. partFor w (P .level) (P .floor) two good (cellIn state c / choices w))
 
     firsts-long : length firsts ≡ seen state
     unfolding firsts
@@ -240,11 +240,11 @@ module _ (P : Profile) where
             × (cellIn state c % choices w + choices w * (cellIn state c / choices w) ≡ cellIn state c)
         byte = byte-of (choices w) (cellIn state c) (is .come c h)
 
-        one : decide w (P .level) (getD firsts c zeroPart) ≡ cellIn state c % choices w
-        one = ap (decide w (P .level)) (made-at (seen state) _ c zeroPart h) ∙ part-decides w (P .level) two good _ (byte .0)
+        one : decide w (P .level) (P .floor) (getD firsts c zeroPart) ≡ cellIn state c % choices w
+        one = ap (decide w (P .level) (P .floor)) (made-at (seen state) _ c zeroPart h) ∙ part-decides w (P .level) (P .floor) two good _ (byte .0)
 
-        more : decide w (P .level) (getD seconds c zeroPart) ≡ cellIn state c / choices w
-        more = ap (decide w (P .level)) (made-at (seen state) _ c zeroPart h) ∙ part-decides w (P .level) two good _ (byte .1)
+        more : decide w (P .level) (P .floor) (getD seconds c zeroPart) ≡ cellIn state c / choices w
+        more = ap (decide w (P .level) (P .floor)) (made-at (seen state) _ c zeroPart h) ∙ part-decides w (P .level) (P .floor) two good _ (byte .1)
 
     made-cell : (c : ℕ) → 2 + c < 28674 → cellIn state c ≡ fedCell P (seen newState) firsts seconds (cellIn newState) c
     made-cell c l = go (decLt c (seen state))

@@ -21,7 +21,7 @@ use Rattle.receiving.proofs.Fed.{fed-before, fed-in, fed-after}
 pub piece-bytes : (P : Profile) (f s : List Float) (before y : List ℕ) (r : Bool)
     → length f ≡ length before
     → length s ≡ length before
-    → DecideRule (P .mode) (P .level) f s before y r
+    → DecideRule (P .mode) (P .level) (P .floor) f s before y r
     → Holds 0 (length f) (byteAt P f s) y
 piece-bytes P f s before y r lf ls d =
     subst (λ (k : ℕ). Holds 0 k (byteAt P f s) y) (sym lf) (d .done (d .answer ∙ rw (eq-eqb _ _ lf, eq-eqb _ _ ls)))

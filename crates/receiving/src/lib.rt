@@ -35,7 +35,7 @@ pub fn receive(p: Profile, marks: u16, firsts: &[f32], seconds: &[f32], data: &m
         return silence(a);
     }
     let mut decided = [0u8; 28672];
-    deciding::decide_cells(p.mode, p.level, firsts, seconds, &mut decided[..n]);
+    deciding::decide_cells(p.mode, p.level, p.floor, firsts, seconds, &mut decided[..n]);
     judging::judge_cells(p, marks, &decided[..n], data)
 }
 

@@ -135,6 +135,7 @@ pub(crate) fn put(p: Profile, state: &mut [u8], firsts: &[f32], seconds: &[f32])
     deciding::decide_cells(
         p.mode,
         p.level,
+        p.floor,
         firsts,
         seconds,
         &mut state[2 + from..2 + end],

@@ -20,7 +20,7 @@ fn decided(bits: u32) {
     let part = parts::part_of_bits(bits);
     print::text(b"decide");
     print::hex(bits, 8);
-    print::byte(deciding::decide(0, level(), part));
+    print::byte(deciding::decide(0, level(), 0.0, part));
     pattern(part);
     print::end();
 }
@@ -29,7 +29,7 @@ fn decided(bits: u32) {
 fn parts(mode: u8, p: Point) {
     pattern(p.first);
     pattern(p.second);
-    let d = deciding::decide_point(mode, level(), p);
+    let d = deciding::decide_point(mode, level(), 0.0, p);
     print::byte(d.first);
     print::byte(d.second);
     print::end();
@@ -55,7 +55,7 @@ fn decided_two(level: u32, bits: u32) {
     print::text(b"decide two");
     print::hex(level, 8);
     print::hex(bits, 8);
-    print::byte(deciding::decide(2, parts::part_of_bits(level), part));
+    print::byte(deciding::decide(2, parts::part_of_bits(level), 0.0, part));
     pattern(part);
     print::end();
 }

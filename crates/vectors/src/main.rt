@@ -2,6 +2,7 @@
 mod blocks;
 mod coded;
 mod decisions;
+mod floors;
 mod packets;
 mod powers;
 mod print;
@@ -17,4 +18,5 @@ fn main() {
     sequences::all();
     symbols::all();
     decisions::all();
+    floors::all();
 }

@@ -20,9 +20,10 @@ add-result c = search needs
 
 returns : tie.Need-returns
 returns c =
-    let p = c .before .before .args .p in
-    λ level. ap₂ (λ (x y : ℕ). x + 3 * y) (c .before .sign-of .ensures .0 ∙ decide-one 1 level (p .first) refl)
-    (c .sign-of2 .ensures .0 ∙ decide-one 1 level (p .second) refl)
+    let a = c .before .before .args in
+    λ level.
+    ap₂ (λ (x y : ℕ). x + 3 * y) (c .before .sign-of .ensures .0 ∙ decide-one 1 level (a .floor) (a .p .first) refl)
+    (c .sign-of2 .ensures .0 ∙ decide-one 1 level (a .floor) (a .p .second) refl)
 
 pub byte-of-signs-spec : {M : Type 1} → statement M
 byte-of-signs-spec =

@@ -18,7 +18,7 @@ sign-of-requires c κs = search needs
 returns : tie.Need-returns
 returns c =
     let a = c .before .before .before .args in
-    (c .sign-of .ensures .0 ∙ decide-one (partBits (a .mode)) (a .level) (a .part) (omega arith), omega arith)
+    (c .sign-of .ensures .0 ∙ decide-one (partBits (a .mode)) (a .level) (a .floor) (a .part) (omega arith), omega arith)
 
 size-and-sign-requires : tie.Need-size-and-sign-requires
 size-and-sign-requires c κs = search needs
@@ -27,7 +27,7 @@ returns-2 : tie.Need-returns-2
 returns-2 c =
     let a = c .before .before .before .args in
     let two : 2 ≡ partBits (a .mode) = omega arith in
-    (c .size-and-sign .ensures .0 ∙ ap (λ (w : ℕ). points.decide w (a .level) (a .part)) two, omega arith)
+    (c .size-and-sign .ensures .0 ∙ ap (λ (w : ℕ). points.decide w (a .level) (a .floor) (a .part)) two, omega arith)
 
 pub decide-spec : {M : Type 1} → statement M
 decide-spec =

@@ -44,8 +44,8 @@ returns-3 c =
     record {
       answer = sym (rw (eq-eqb _ _ (e .before .if1 .left), eq-eqb _ _ (e .if2 .left)));
       done = λ _.
-          holds-as 0 (decidedByte (a .mode) (a .level) (a .firsts .now) (a .seconds .now))
-          (λ k lt. ap (λ (w : ℕ). byteOf w (a .level) (a .firsts .now) (a .seconds .now) k) one) (c .before .before .decide-signs .ensures (a .level));
+          holds-as 0 (decidedByte (a .mode) (a .level) (a .floor) (a .firsts .now) (a .seconds .now))
+          (λ k lt. ap (λ (w : ℕ). byteOf w (a .level) (a .floor) (a .firsts .now) (a .seconds .now) k) one) (c .before .before .decide-signs .ensures (a .level));
       kept = λ e. absurd (true≢false e);
     }
 
@@ -63,8 +63,8 @@ returns-4 c =
     record {
       answer = sym (rw (eq-eqb _ _ (e .before .if1 .left), eq-eqb _ _ (e .if2 .left)));
       done = λ _.
-          holds-as 0 (decidedByte (a .mode) (a .level) (a .firsts .now) (a .seconds .now))
-          (λ k lt. ap (λ (w : ℕ). byteOf w (a .level) (a .firsts .now) (a .seconds .now) k) two) (c .before .before .decide-sizes .ensures);
+          holds-as 0 (decidedByte (a .mode) (a .level) (a .floor) (a .firsts .now) (a .seconds .now))
+          (λ k lt. ap (λ (w : ℕ). byteOf w (a .level) (a .floor) (a .firsts .now) (a .seconds .now) k) two) (c .before .before .decide-sizes .ensures);
       kept = λ e. absurd (true≢false e);
     }
 

@@ -15,16 +15,16 @@ use Rattle.deciding.proofs.decide_signs.Statement.{statement}
 use Rattle.deciding.proofs.decide_signs.Tie as tie
 
 abbrev Inv-loop : tie.InvT-loop
-Inv-loop firsts seconds out₀ c₀ c-end out c =
-    (c ≤ length out₀) × ((level : Float) → Holds 0 (length out₀) (upTo c (byteOf 1 level firsts seconds) (row out₀)) out)
+Inv-loop floor firsts seconds out₀ c₀ c-end out c =
+    (c ≤ length out₀) × ((level : Float) → Holds 0 (length out₀) (upTo c (byteOf 1 level floor firsts seconds) (row out₀)) out)
 
 abbrev μ-loop : tie.MeasureT-loop
-μ-loop firsts seconds out₀ c₀ c-end out c = length out₀ - c
+μ-loop floor firsts seconds out₀ c₀ c-end out c = length out₀ - c
 
 loop-holds : tie.Need-loop-holds Inv-loop μ-loop
 loop-holds c =
     let a = c .before .before .before .args in
-    (omega arith, λ level. holds-first (byteOf 1 level (a .firsts .now) (a .seconds .now)) (row (a .out .now)) 0 (holds-self 0 (a .out .now)))
+    (omega arith, λ level. holds-first (byteOf 1 level (a .floor) (a .firsts .now) (a .seconds .now)) (row (a .out .now)) 0 (holds-self 0 (a .out .now)))
 
 point-in-requires : tie.Need-point-in-requires Inv-loop μ-loop
 point-in-requires c κs = (omega arith, omega arith)
@@ -48,8 +48,8 @@ loop-again c =
     let p = c .before .point-in .ensures in (
       omega arith,
       λ level.
-          holds-next (byteOf 1 level (a .firsts .now) (a .seconds .now)) (row (a .out .now)) 0 (l .c) (c .byte-of-signs .result) (omega arith)
-          (c .byte-of-signs .ensures level ∙ ap₂ (cellByte 1 level) (p .0) (p .1)) (l .inv .1 level),
+          holds-next (byteOf 1 level (a .floor) (a .firsts .now) (a .seconds .now)) (row (a .out .now)) 0 (l .c) (c .byte-of-signs .result) (omega arith)
+          (c .byte-of-signs .ensures level ∙ ap₂ (cellByte 1 level (a .floor)) (p .0) (p .1)) (l .inv .1 level),
     )
 
 same-length : tie.Need-same-length Inv-loop μ-loop

@@ -13,16 +13,16 @@ use Rattle.deciding.proofs.decide_sizes.Statement.{statement}
 use Rattle.deciding.proofs.decide_sizes.Tie as tie
 
 abbrev Inv-loop : tie.InvT-loop
-Inv-loop level firsts seconds out₀ c₀ c-end out c =
-    (c ≤ length out₀) × Holds 0 (length out₀) (upTo c (byteOf 2 level firsts seconds) (row out₀)) out
+Inv-loop level floor firsts seconds out₀ c₀ c-end out c =
+    (c ≤ length out₀) × Holds 0 (length out₀) (upTo c (byteOf 2 level floor firsts seconds) (row out₀)) out
 
 abbrev μ-loop : tie.MeasureT-loop
-μ-loop level firsts seconds out₀ c₀ c-end out c = length out₀ - c
+μ-loop level floor firsts seconds out₀ c₀ c-end out c = length out₀ - c
 
 loop-holds : tie.Need-loop-holds Inv-loop μ-loop
 loop-holds c =
     let a = c .before .before .before .args in
-    (omega arith, holds-first (byteOf 2 (a .level) (a .firsts .now) (a .seconds .now)) (row (a .out .now)) 0 (holds-self 0 (a .out .now)))
+    (omega arith, holds-first (byteOf 2 (a .level) (a .floor) (a .firsts .now) (a .seconds .now)) (row (a .out .now)) 0 (holds-self 0 (a .out .now)))
 
 point-in-requires : tie.Need-point-in-requires Inv-loop μ-loop
 point-in-requires c κs = (omega arith, omega arith)
@@ -45,8 +45,8 @@ loop-again c =
     let a = c .before .before .before .before .before .before .before .args in
     let p = c .before .point-in .ensures in (
       omega arith,
-      holds-next (byteOf 2 (a .level) (a .firsts .now) (a .seconds .now)) (row (a .out .now)) 0 (l .c) (c .byte-of-sizes .result) (omega arith)
-          (c .byte-of-sizes .ensures ∙ ap₂ (cellByte 2 (a .level)) (p .0) (p .1)) (l .inv .1),
+      holds-next (byteOf 2 (a .level) (a .floor) (a .firsts .now) (a .seconds .now)) (row (a .out .now)) 0 (l .c) (c .byte-of-sizes .result) (omega arith)
+          (c .byte-of-sizes .ensures ∙ ap₂ (cellByte 2 (a .level) (a .floor)) (p .0) (p .1)) (l .inv .1),
     )
 
 same-length : tie.Need-same-length Inv-loop μ-loop

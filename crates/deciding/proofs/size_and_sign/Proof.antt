@@ -20,18 +20,18 @@ add-sum c = search needs
 
 sum : (c : tie.After-sign-of)
     → (let a = c .before .before .args in
-    c .before .size-of .result + c .sign-of .result ≡ 2 * sizeOf (a .level) (a .part) + signOr 4 (a .part))
+    c .before .size-of .result + c .sign-of .result ≡ 2 * sizeOf (a .level) (a .floor) (a .part) + signOr 4 (a .floor) (a .part))
 sum c = ap₂ _+_ (c .before .size-of .ensures .0) (c .sign-of .ensures .0)
 
 returns : tie.Need-returns
 returns c =
     let a = c .before .before .before .args in
-    (decide-over (a .level) (a .part) (subst (λ (n : ℕ). 4 < n) (sum (c .before)) (c .if1 .taken)), omega arith)
+    (decide-over (a .level) (a .floor) (a .part) (subst (λ (n : ℕ). 4 < n) (sum (c .before)) (c .if1 .taken)), omega arith)
 
 returns-2 : tie.Need-returns-2
 returns-2 c =
     let a = c .before .before .before .args in
-    (sum (c .before) ∙ decide-sum (a .level) (a .part) (subst (λ (n : ℕ). n ≤ 4) (sum (c .before)) (c .if1 .left)), omega arith)
+    (sum (c .before) ∙ decide-sum (a .level) (a .floor) (a .part) (subst (λ (n : ℕ). n ≤ 4) (sum (c .before)) (c .if1 .left)), omega arith)
 
 pub size-and-sign-spec : {M : Type 1} → statement M
 size-and-sign-spec =

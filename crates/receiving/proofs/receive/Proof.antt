@@ -69,7 +69,7 @@ decide-cells-requires c κs = search needs
 
 -- what was decided, how many of it the grid has, and the zeros after it
 abbrev made : tie.After-decide-cells → List ℕ
-made c = c .decide-cells .last .1 .1 .1 .1 .0
+made c = c .decide-cells .last .1 .1 .1 .1 .1 .0
 
 abbrev many : tie.After-decide-cells → ℕ
 many c = 4096 * c .before .before .before .before .before .symbol-count .result

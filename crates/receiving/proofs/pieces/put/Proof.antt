@@ -47,7 +47,7 @@ cast-state-2 c = search needs
 -- what was put in
 bytes : (c : tie.After-decide-cells)
     → let a = c .before .before .before .before .before .before .before .args in
-    Holds 0 (length (a .firsts .now)) (byteAt (a .p) (a .firsts .now) (a .seconds .now)) (c .decide-cells .last .1 .1 .1 .1 .0)
+    Holds 0 (length (a .firsts .now)) (byteAt (a .p) (a .firsts .now) (a .seconds .now)) (c .decide-cells .last .1 .1 .1 .1 .1 .0)
 bytes c =
     let s = c .before .before .before .before .before .before .before in
     let a = s .args in
@@ -61,7 +61,7 @@ slice-write-state-2 c =
     let s = d .before .before .before .before .before .before .before in
     let n = d .before .before .seen in
     let a = s .args in
-    put-second (a .p) (a .firsts .now) (a .seconds .now) (a .state .now) (d .decide-cells .last .1 .1 .1 .1 .0) (n .result) (n .result + length (a .firsts .now)) _ 0
+    put-second (a .p) (a .firsts .now) (a .seconds .now) (a .state .now) (d .decide-cells .last .1 .1 .1 .1 .1 .0) (n .result) (n .result + length (a .firsts .now)) _ 0
     (s .pre .0) (n .ensures .0) refl (omega arith) (bytes d)
 
 same-length : tie.Need-same-length
@@ -73,7 +73,7 @@ returns c =
     let s = d .before .before .before .before .before .before .before in
     let n = d .before .before .seen in
     let a = s .args in
-    put-done (a .p) (a .firsts .now) (a .seconds .now) (a .state .now) (d .decide-cells .last .1 .1 .1 .1 .0) (n .result) (n .result + length (a .firsts .now)) _ _
+    put-done (a .p) (a .firsts .now) (a .seconds .now) (a .state .now) (d .decide-cells .last .1 .1 .1 .1 .1 .0) (n .result) (n .result + length (a .firsts .now)) _ _
     (s .pre .0) (n .ensures .0) refl (omega arith) (bytes d) refl refl
 
 pub put-spec : {M : Type 1} → statement M
