@@ -6,9 +6,9 @@
 
    What a call writes is of two kinds:
    - Answers, which come back through the result pointers: `place` of every call that has a profile; `lost` and `reasons` of flo_receive and
-     flo_ask; `masks`, `level`, `mode`, `k` and `seeds` of flo_read_profile; `profile` and `count` of flo_write_profile; `count` of flo_compare. They
+     flo_ask; `masks`, `level`, `mode`, `k`, `seeds` and `floor` of flo_read_profile; `profile` and `count` of flo_write_profile; `count` of flo_compare. They
      are written at every return, whatever they held before: on a refusal with zeros, except that flo_receive and flo_ask still say at 9 and 10 which
-     packets are lost and why, and that `place` says at 40 to 44 where the faulty number is.
+     packets are lost and why, and that `place` says at 40 to 45 where the faulty number is.
    - Lent memory: the cell lists of a send, the `state` of flo_feed, the `data` of flo_receive and flo_ask, the `block` of flo_parity, the
      `differences` of flo_compare. On a refusal it keeps what it held.
 
@@ -36,20 +36,21 @@ extern "C" {
 #define FLO_MOST_DATA 1708                        /* bytes of the most data, at k = 14 */
 #define FLO_MASKS 8                               /* scrambling masks of a profile */
 #define FLO_SEEDS 48                              /* places for seeds in a profile as a value; modes 0 to 4 use 48, 32, 24, 16, 12, and the others are zero */
-#define FLO_MOST_PROFILE 245                      /* bytes of the longest profile, in mode 0; in modes 1 to 4 it has 181, 149, 117, 101 */
+#define FLO_MOST_PROFILE 252                      /* bytes of the longest profile, in mode 0; in modes 1 to 4 it has 188, 156, 124, 108 */
 #define FLO_STATE 28674                           /* bytes of flo_feed's state, in every mode: 2, and one for each cell of the largest grid */
 #define FLO_DIFFERENCE 6                          /* numbers that flo_compare lists for a difference */
 
 /* A thread with a stack of this many bytes can make every call. As measured on Arm, a call takes at most 152,000 of them (docs/MEASURED.md). */
 #define FLO_STACK 262144
 
-/* Every call answers one of these numbers: the first that reading the profile finds (1, 2, 3, 5, 40 to 44), then the first that fits of the call's
+/* Every call answers one of these numbers: the first that reading the profile finds (1, 2, 3, 5, 40 to 45), then the first that fits of the call's
    own, in the order in which the call's comment names them, else 0. Only FLO_DONE is a success.
 
-   At 40 to 44 `place` is the byte of the profile, from 0, where the faulty number begins; of the masks and of the seeds it is the first faulty one's.
-   The masks begin at bytes 3, 7, .. 31, the level at 38, mode and K are bytes 45 and 49, and the seeds begin at bytes 53, 57, .. . At every other
-   number, 0 too, `place` is zero. The profile's numbers are tested in the order of its bytes; only the level is tested once more right after the mode
-   (41, byte 38), since modes 2 to 4 also send three times the level, rounded once to a float, and that has to be finite. */
+   At 40 to 45 `place` is the byte of the profile, from 0, where the faulty number begins; of the masks and of the seeds it is the first faulty one's.
+   The masks begin at bytes 3, 7, .. 31, the level at 38, mode and K are bytes 45 and 49, the seeds begin at bytes 53, 57, .. , and the floor at byte 248
+   in mode 0, 184, 152, 120, 104 in modes 1 to 4. At every other number, 0 too, `place` is zero. The profile's numbers are tested in the order of its
+   bytes; only the level is tested once more right after the mode (41, byte 38), since modes 2 to 4 also send three times the level, rounded once to a
+   float, and that has to be finite. */
 enum flo_number {
     FLO_DONE = 0,
     FLO_CUT_IN_FIELD = 1,    /* the profile ends inside a field */
@@ -70,18 +71,27 @@ enum flo_number {
     FLO_BAD_LEVEL = 41,      /* the level isn't positive, finite and normal, or modes 2 to 4 can't send it: its triple isn't finite */
     FLO_BAD_MODE = 42,       /* the mode isn't 0 to 4 */
     FLO_BAD_K = 43,          /* K isn't 8, 12 or 14 */
-    FLO_BAD_SEED = 44        /* a seed isn't from 1 to 2^20 - 1, or an unused one isn't zero */
+    FLO_BAD_SEED = 44,       /* a seed isn't from 1 to 2^20 - 1, or an unused one isn't zero */
+    FLO_BAD_FLOOR = 45       /* the floor is neither +0.0 nor positive and finite (-0.0 is bad), or floor + floor is more than the level */
 };
 
 /* Why flo_receive and flo_ask hold a packet for lost: the first that fits. */
 enum flo_reason {
     FLO_ACCEPTED = 0,        /* it isn't lost */
     FLO_MARKED = 11,         /* the caller marked it */
-    FLO_DOUBTFUL = 12,       /* a part of its cells is zero or NaN, or in modes 2 to 4 just twice the level or its negative */
+    FLO_DOUBTFUL = 12,       /* a part of its cells is in a doubtful range, or NaN: "What a part decides to", below */
     FLO_CHECK_WORD = 13,     /* its check word doesn't fit its data */
     FLO_RESERVED_BITS = 14,  /* its two reserved bits aren't zero */
     FLO_CODED_BITS = 15      /* its coded bits aren't those that its data gives */
 };
+
+/* What a part decides to. Doubtful are parts from -floor to floor, ends included; in modes 2 to 4 also those from 2 * level - floor to
+   2 * level + floor and from -(2 * level + floor) to -(2 * level - floor), ends included, where twice the level is exact and each end is rounded
+   once to a float; and NaN. At the floor +0.0 these are zero of either sign, twice the level, its negative, and NaN. Every other part decides:
+   - In modes 0 and 1 to the bit 0 above the floor, 1 below its negative.
+   - In modes 2 to 4 to two bits: 0 above the range around twice the level, 1 below the range around its negative, 2 between the ranges around zero and
+     twice the level, 3 between those around minus twice the level and zero.
+   What is sent is never doubtful, with any profile that isn't refused. */
 
 /* Fills the whole grid: 0, the profile's, 6, 7. */
 uint32_t flo_send(const uint8_t *profile, size_t profile_length, const uint8_t *data, size_t data_length, float *firsts, size_t firsts_length,
@@ -111,12 +121,11 @@ uint32_t flo_receive(const uint8_t *profile, size_t profile_length, uint16_t mar
    What the bytes mean is fixed, so that a state can be copied, stored, and used on any machine:
    - Bytes 0 and 1: how many cells have come, high byte first.
    - Byte 2 + c: cell c of the grid, where cell i of symbol y is 4096 * y + i. Zero before it has come, then d1 + 3 * d2, where d1 is the decision of
-     its first part and d2 that of its second: 0 above zero, 1 below zero, 2 doubtful (zero of either sign, NaN). Cells that carry nothing have
-     theirs too. In modes 1 to 4 the bytes after the grid's symbols stay zero.
-   In modes 2 to 4 the byte is d1 + 5 * d2 instead, and a decision is of two bits: 0 above twice the level, 1 below minus twice the level, 2 between zero
-   and twice the level, 3 between minus twice the level and zero, 4 doubtful (on one of these three lines, NaN).
-   Every other state, and one of another length, is FLO_NO_SUCH_STATE. Of the profile, the state depends on the mode and, in modes 2 to 4, on the
-   level; a state that was fed in another mode is noticed only where it has more cells than the grid, or a byte that the mode hasn't. */
+     its first part and d2 that of its second: 0 or 1 as above, 2 doubtful. Cells that carry nothing have theirs too. In modes 1 to 4 the bytes after
+     the grid's symbols stay zero.
+   In modes 2 to 4 the byte is d1 + 5 * d2 instead, where a decision is 0 to 3 as above, 4 doubtful.
+   Every other state, and one of another length, is FLO_NO_SUCH_STATE. Of the profile, the state depends on the mode, on the floor and, in modes 2 to 4,
+   on the level; a state that was fed in another mode is noticed only where it has more cells than the grid, or a byte that the mode hasn't. */
 
 /* Takes a piece, which may be empty: 0, the profile's, 22, 7, 16. At 0 its cells are in the state, at every other number the state is as it was. */
 uint32_t flo_feed(const uint8_t *profile, size_t profile_length, uint8_t *state, size_t state_length, const float *firsts, size_t firsts_length,
@@ -126,15 +135,15 @@ uint32_t flo_feed(const uint8_t *profile, size_t profile_length, uint8_t *state,
 uint32_t flo_ask(const uint8_t *profile, size_t profile_length, uint16_t marks, const uint8_t *state, size_t state_length, uint8_t *data,
                  size_t data_length, uint16_t *lost, uint8_t reasons[16], size_t *place);
 
-/* Reads a profile: 0, the profile's. On a refusal all numbers are zero and the level is +0.0. */
+/* Reads a profile: 0, the profile's. On a refusal all numbers are zero, level and floor +0.0. */
 uint32_t flo_read_profile(const uint8_t *profile, size_t profile_length, uint32_t masks[8], float *level, uint8_t *mode, uint8_t *k,
-                          uint32_t seeds[48], size_t *place);
+                          uint32_t seeds[48], float *floor, size_t *place);
 
-/* Writes a profile: 0, 40, 41, 42, 41 again, 43, 44, tested in this order; the place is counted as if the value had been written out. An unused seed
+/* Writes a profile: 0, 40, 41, 42, 41 again, 43, 44, 45, tested in this order; the place is counted as if the value had been written out. An unused seed
    (mode 1 uses 32 of the 48) that isn't zero is 44 too, with the place where it would stand. The bytes after the written ones are zero; on a refusal all are, and the
    count is 0. */
-uint32_t flo_write_profile(const uint32_t masks[8], float level, uint8_t mode, uint8_t k, const uint32_t seeds[48], uint8_t profile[245],
-                           size_t *count, size_t *place);
+uint32_t flo_write_profile(const uint32_t masks[8], float level, uint8_t mode, uint8_t k, const uint32_t seeds[48], float floor,
+                           uint8_t profile[252], size_t *count, size_t *place);
 
 /* Fills packets k to 15 of a block of 16 packets of 122 bytes with the outer parity of the k before them: 0, 43 where k isn't 8, 12 or 14, 6 where
    the block isn't 1952 bytes long. There is no profile here, and so no place. */

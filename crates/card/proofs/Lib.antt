@@ -8,6 +8,7 @@ pub mod Cutting
 pub mod D2
 pub mod Grid
 pub mod D3
+pub mod Weak
 pub mod OneAnswer
 pub mod Reading
 pub mod Members

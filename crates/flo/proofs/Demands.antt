@@ -89,8 +89,8 @@ calls-told =
       ask = λ profile marks state before after lost reasons a r.
           by-reading profile _ r (unread-told profile before after lost reasons a)
           (d1 .ask _ marks state before after (receiptOf a lost reasons));
-      read-profile = λ profile masks level mode k seeds a r. read-told profile a (r .answer);
-      write-profile = λ masks level mode k seeds profile count a r.
+      read-profile = λ profile masks level mode k seeds floor a r. read-told profile a (r .answer);
+      write-profile = λ masks level mode k seeds floor profile count a r.
           subst (λ (w : Writing). T (isAnswer (w .number) (w .place))) (r .answer) (d1 .write _ .0);
       parity = λ k before after n r. (rw (r .answer) (parity-number (not (isK k)) (not (eqb (length before) 1952))), r .kept);
       compare = λ fa sa fb sb before after count n r.
@@ -113,7 +113,7 @@ calls-one =
       ask = λ profile marks state before after after' lost lost' reasons reasons' n m x y.
           both-reading profile _ x y (λ p q. (p .0 ∙ sym (q .0), p .1 ∙ sym (q .1), p .2 ∙ sym (q .2), p .3 ∙ sym (q .3)))
           (λ p q. fields (d2 .one-asking _ marks state before after after' _ _ p q));
-      read-profile = λ profile masks masks' level level' mode mode' k k' seeds seeds' n m x y.
+      read-profile = λ profile masks masks' level level' mode mode' k k' seeds seeds' floor floor' n m x y.
           let e = sym (x .value) ∙ y .value in (
             x .answer ∙ sym (y .answer),
             ap (λ (P : Profile). P .masks) e,
@@ -121,8 +121,9 @@ calls-one =
             ap (λ (P : Profile). P .mode) e,
             ap (λ (P : Profile). P .k) e,
             ap (λ (P : Profile). P .seeds) e,
+            ap (λ (P : Profile). P .floor) e,
           );
-      write-profile = λ masks level mode k seeds profile profile' count count' n m x y.
+      write-profile = λ masks level mode k seeds floor profile profile' count count' n m x y.
           let e = sym (x .answer) ∙ y .answer in
           (ap (λ (w : Writing). record { number = w .number; place = w .place }) e, ap (λ (w : Writing). w .bytes) e, ap (λ (w : Writing). w .count) e);
       parity = λ k before after after' n m. one-parity k;

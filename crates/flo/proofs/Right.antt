@@ -160,13 +160,13 @@ calls-right =
           let w = passed profile r (λ q. not-read profile a t (q .0)) in
           let iff = d2 .ask-accepts _ marks f s state before after _ (fed-said profile h) (w .0) t p l u in
           ((λ e. iff .0 (t, e)), λ q. iff .1 q .1);
-      read-written = λ masks level mode k seeds profile count a S r z.
+      read-written = λ masks level mode k seeds floor profile count a S r z.
           let e = ap (λ (w : Writing). reading (take (w .count) (w .bytes))) (sym (r .answer))
           ∙ d2 .read-written _ S (ap (λ (w : Writing). w .number) (r .answer) ∙ z) in
           record { answer = sym (ap told e); value = ap (λ (x : Reading). x .profile) e };
-      written-read = λ profile masks level mode k seeds a bytes r z.
+      written-read = λ profile masks level mode k seeds floor a bytes r z.
           record { answer = ap writing (sym (r .value)) ∙ d2 .written-read profile bytes (not-refused profile a z (r .answer)) };
-      refused-alike = λ profile masks level mode k seeds bytes count a b t r w.
+      refused-alike = λ profile masks level mode k seeds floor bytes count a b t r w.
           let P = spelt fields blank profile in
           r .answer ∙ ap told (d2 .read-refused profile t)
           ∙ answers-alike P (inRange P) ∙ ap (λ (x : Writing). record { number = x .number; place = x .place }) (w .answer);

@@ -49,12 +49,12 @@ abbrev pub FloAsk : List ℕ → ℕ → List ℕ → List ℕ → List ℕ → 
 FloAsk profile marks state before after lost reasons a =
     AfterReading profile (Unread before after lost reasons a) (λ P. AskRule P marks state before after (receiptOf a lost reasons))
 
-pub record FloReadProfile (profile masks : List ℕ) (level : Float) (mode k : ℕ) (seeds : List ℕ) (a : Answer) : Type 0 where
+pub record FloReadProfile (profile masks : List ℕ) (level : Float) (mode k : ℕ) (seeds : List ℕ) (floor : Float) (a : Answer) : Type 0 where
   pub answer : a ≡ refusal profile
-  pub value : reading profile .profile ≡ record { masks = masks; level = level; mode = mode; k = k; seeds = seeds }
+  pub value : reading profile .profile ≡ record { masks = masks; level = level; mode = mode; k = k; seeds = seeds; floor = floor }
 
-pub record FloWriteProfile (masks : List ℕ) (level : Float) (mode k : ℕ) (seeds profile : List ℕ) (count : ℕ) (a : Answer) : Type 0 where
-  pub answer : writing (record { masks = masks; level = level; mode = mode; k = k; seeds = seeds })
+pub record FloWriteProfile (masks : List ℕ) (level : Float) (mode k : ℕ) (seeds : List ℕ) (floor : Float) (profile : List ℕ) (count : ℕ) (a : Answer) : Type 0 where
+  pub answer : writing (record { masks = masks; level = level; mode = mode; k = k; seeds = seeds; floor = floor })
       ≡ record { number = a .number; place = a .place; bytes = profile; count = count }
 
 abbrev pub FloParity : ℕ → List ℕ → List ℕ → ℕ → Type 0

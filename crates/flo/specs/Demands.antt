@@ -38,11 +38,11 @@ pub record CallsTold : Type 0 where
   pub ask : (profile : List ℕ) (marks : ℕ) (state before after : List ℕ) (lost : ℕ) (reasons : List ℕ) (a : Answer)
       → FloAsk profile marks state before after lost reasons a
       → T (isAnswer (a .number) (a .place)) × ((p : ℕ) → p < 16 → T (isReason (row reasons p))) × (¬ (a .number ≡ 0) → after ≡ before)
-  pub read-profile : (profile masks : List ℕ) (level : Float) (mode k : ℕ) (seeds : List ℕ) (a : Answer)
-      → FloReadProfile profile masks level mode k seeds a
+  pub read-profile : (profile masks : List ℕ) (level : Float) (mode k : ℕ) (seeds : List ℕ) (floor : Float) (a : Answer)
+      → FloReadProfile profile masks level mode k seeds floor a
       → T (isAnswer (a .number) (a .place))
-  pub write-profile : (masks : List ℕ) (level : Float) (mode k : ℕ) (seeds profile : List ℕ) (count : ℕ) (a : Answer)
-      → FloWriteProfile masks level mode k seeds profile count a
+  pub write-profile : (masks : List ℕ) (level : Float) (mode k : ℕ) (seeds : List ℕ) (floor : Float) (profile : List ℕ) (count : ℕ) (a : Answer)
+      → FloWriteProfile masks level mode k seeds floor profile count a
       → T (isAnswer (a .number) (a .place))
   pub parity : (k : ℕ) (before after : List ℕ) (n : ℕ) → FloParity k before after n → T (isNumber n) × (¬ (n ≡ 0) → after ≡ before)
   pub compare : (fa sa fb sb before after : List ℕ) (count n : ℕ)
@@ -72,13 +72,13 @@ pub record CallsOne : Type 0 where
       → FloAsk profile marks state before after lost reasons a
       → FloAsk profile marks state before after' lost' reasons' b
       → (a ≡ b) × (lost ≡ lost') × (reasons ≡ reasons') × (after ≡ after')
-  pub read-profile : (profile masks masks' : List ℕ) (level level' : Float) (mode mode' k k' : ℕ) (seeds seeds' : List ℕ) (a b : Answer)
-      → FloReadProfile profile masks level mode k seeds a
-      → FloReadProfile profile masks' level' mode' k' seeds' b
-      → (a ≡ b) × (masks ≡ masks') × (level ≡ level') × (mode ≡ mode') × (k ≡ k') × (seeds ≡ seeds')
-  pub write-profile : (masks : List ℕ) (level : Float) (mode k : ℕ) (seeds profile profile' : List ℕ) (count count' : ℕ) (a b : Answer)
-      → FloWriteProfile masks level mode k seeds profile count a
-      → FloWriteProfile masks level mode k seeds profile' count' b
+  pub read-profile : (profile masks masks' : List ℕ) (level level' : Float) (mode mode' k k' : ℕ) (seeds seeds' : List ℕ) (floor floor' : Float) (a b : Answer)
+      → FloReadProfile profile masks level mode k seeds floor a
+      → FloReadProfile profile masks' level' mode' k' seeds' floor' b
+      → (a ≡ b) × (masks ≡ masks') × (level ≡ level') × (mode ≡ mode') × (k ≡ k') × (seeds ≡ seeds') × (floor ≡ floor')
+  pub write-profile : (masks : List ℕ) (level : Float) (mode k : ℕ) (seeds : List ℕ) (floor : Float) (profile profile' : List ℕ) (count count' : ℕ) (a b : Answer)
+      → FloWriteProfile masks level mode k seeds floor profile count a
+      → FloWriteProfile masks level mode k seeds floor profile' count' b
       → (a ≡ b) × (profile ≡ profile') × (count ≡ count')
   pub parity : (k : ℕ) (before after after' : List ℕ) (n m : ℕ)
       → FloParity k before after n
@@ -174,21 +174,21 @@ pub record CallsRight : Type 0 where
       → p < 16
       → marked marks p ≡ 0
       → (row reasons p ≡ 0) ↔ SomePacket (said profile) f s p
-  pub read-written : (masks : List ℕ) (level : Float) (mode k : ℕ) (seeds profile : List ℕ) (count : ℕ) (a : Answer)
-      → Shape (record { masks = masks; level = level; mode = mode; k = k; seeds = seeds })
-      → FloWriteProfile masks level mode k seeds profile count a
+  pub read-written : (masks : List ℕ) (level : Float) (mode k : ℕ) (seeds : List ℕ) (floor : Float) (profile : List ℕ) (count : ℕ) (a : Answer)
+      → Shape (record { masks = masks; level = level; mode = mode; k = k; seeds = seeds; floor = floor })
+      → FloWriteProfile masks level mode k seeds floor profile count a
       → a .number ≡ 0
-      → FloReadProfile (take count profile) masks level mode k seeds (only 0)
-  pub written-read : (profile masks : List ℕ) (level : Float) (mode k : ℕ) (seeds : List ℕ) (a : Answer)
+      → FloReadProfile (take count profile) masks level mode k seeds floor (only 0)
+  pub written-read : (profile masks : List ℕ) (level : Float) (mode k : ℕ) (seeds : List ℕ) (floor : Float) (a : Answer)
       → ((i : ℕ) → row profile i < 256)
-      → FloReadProfile profile masks level mode k seeds a
+      → FloReadProfile profile masks level mode k seeds floor a
       → a .number ≡ 0
-      → FloWriteProfile masks level mode k seeds (profile ++ replicate (largest - length profile) 0) (length profile) (only 0)
+      → FloWriteProfile masks level mode k seeds floor (profile ++ replicate (largest - length profile) 0) (length profile) (only 0)
   -- bytes whose headers and lengths are right are refused as the value that stands there is
-  pub refused-alike : (profile masks : List ℕ) (level : Float) (mode k : ℕ) (seeds bytes : List ℕ) (count : ℕ) (a b : Answer)
+  pub refused-alike : (profile masks : List ℕ) (level : Float) (mode k : ℕ) (seeds : List ℕ) (floor : Float) (bytes : List ℕ) (count : ℕ) (a b : Answer)
       → T (headed fields blank profile)
-      → FloReadProfile profile masks level mode k seeds a
-      → (let P = spelt fields blank profile in FloWriteProfile (P .masks) (P .level) (P .mode) (P .k) (P .seeds) bytes count b)
+      → FloReadProfile profile masks level mode k seeds floor a
+      → (let P = spelt fields blank profile in FloWriteProfile (P .masks) (P .level) (P .mode) (P .k) (P .seeds) (P .floor) bytes count b)
       → a ≡ b
   -- 40 to 44 are those of reading, with their places
   pub send-names : (profile d : List ℕ) (f s f' s' : List Float) (a : Answer)

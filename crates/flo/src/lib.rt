@@ -147,9 +147,10 @@ pub extern "C" fn flo_read_profile(
     mode: &mut u8,
     k: &mut u8,
     seeds: &mut [u32; 48],
+    floor: &mut f32,
     place: &mut usize,
 ) -> u32
-    ensures { λ r. ⌜ FloReadProfile (now (profile .entry)) (now (masks .exit)) (now (level .exit)) (now (mode .exit)) (now (k .exit)) (now (seeds .exit)) (record { number = r; place = now (place .exit) }) ⌝ }
+    ensures { λ r. ⌜ FloReadProfile (now (profile .entry)) (now (masks .exit)) (now (level .exit)) (now (mode .exit)) (now (k .exit)) (now (seeds .exit)) (now (floor .exit)) (record { number = r; place = now (place .exit) }) ⌝ }
 {
     let a = profile::read(profile);
     let p = a.profile;
@@ -160,6 +161,7 @@ pub extern "C" fn flo_read_profile(
     *k = p.k;
     let s = p.seeds;
     *seeds = s;
+    *floor = p.floor;
     *place = a.place;
     a.number
 }
@@ -171,11 +173,12 @@ pub extern "C" fn flo_write_profile(
     mode: u8,
     k: u8,
     seeds: &[u32; 48],
-    profile: &mut [u8; 245],
+    floor: f32,
+    profile: &mut [u8; 252],
     count: &mut usize,
     place: &mut usize,
 ) -> u32
-    ensures { λ r. ⌜ FloWriteProfile (now (masks .entry)) level mode k (now (seeds .entry)) (now (profile .exit)) (now (count .exit)) (record { number = r; place = now (place .exit) }) ⌝ }
+    ensures { λ r. ⌜ FloWriteProfile (now (masks .entry)) level mode k (now (seeds .entry)) floor (now (profile .exit)) (now (count .exit)) (record { number = r; place = now (place .exit) }) ⌝ }
 {
     let m = *masks;
     let s = *seeds;
@@ -185,6 +188,7 @@ pub extern "C" fn flo_write_profile(
         mode,
         k,
         seeds: s,
+        floor,
     });
     let bytes = a.bytes;
     *profile = bytes;
