@@ -1,5 +1,5 @@
 // The words for a number of a profile that is outside its range, in two halves with the number's value between them. A field goes by the number
-// that it is refused with: 40 mask, 41 level, 42 mode, 43 K, 44 seed.
+// that it is refused with: 40 mask, 41 level, 42 mode, 43 K, 44 seed, 45 floor.
 use super::put;
 
 fn indexed(out: &mut [u8], at: usize, what: &[u8], index: usize) -> usize {
@@ -14,6 +14,7 @@ fn name(out: &mut [u8], at: usize, number: u32, index: usize) -> usize {
         41 => put::bytes(out, at, b"level"),
         42 => put::bytes(out, at, b"mode"),
         43 => put::bytes(out, at, b"K"),
+        45 => put::bytes(out, at, b"floor"),
         _ => indexed(out, at, b"seed ", index),
     }
 }
@@ -27,6 +28,11 @@ fn range(out: &mut [u8], at: usize, number: u32) -> usize {
         ),
         42 => put::bytes(out, at, b"0 to 4"),
         43 => put::bytes(out, at, b"8, 12 and 14"),
+        45 => put::bytes(
+            out,
+            at,
+            b"0x00000000 to 0x7f7fffff (+0.0, or positive and finite)",
+        ),
         _ => put::bytes(out, at, b"1 to 1048575"),
     }
 }
@@ -53,15 +59,38 @@ pub fn after_in_mode(out: &mut [u8], at: usize) -> usize {
     )
 }
 
+// The largest floor under a level in its range, both by their patterns: twice the floor is at most the level. Half a level has an exponent one less;
+// where that is too small for a normal number, the pattern is a plain count, and its half is rounded down.
+pub fn half(level: u32) -> u32 {
+    if level < 0x0100_0000 {
+        level / 2
+    } else {
+        level - 0x0080_0000
+    }
+}
+
+// The words after the value of a floor, where the level is known.
+pub fn after_at_level(out: &mut [u8], at: usize, level: u32) -> usize {
+    let at = put::bytes(out, at, b", 0x00000000 to ");
+    let at = put::pattern(out, at, half(level));
+    put::bytes(
+        out,
+        at,
+        b" (+0.0, or positive and at most half the level) are allowed",
+    )
+}
+
 // Whether a level is in its range, by its pattern: what refuses it is then the mode.
 fn is_level(x: u32) -> bool {
     0x0080_0000 <= x && x <= 0x7F7F_FFFF
 }
 
-// The words after the value of a profile's field.
-pub(crate) fn after_value(out: &mut [u8], at: usize, number: u32, x: u32) -> usize {
+// The words after the value of a field of a profile with this level.
+pub(crate) fn after_value(out: &mut [u8], at: usize, number: u32, x: u32, level: u32) -> usize {
     if number == 41 && is_level(x) {
         after_in_mode(out, at)
+    } else if number == 45 {
+        after_at_level(out, at, level)
     } else {
         after(out, at, number)
     }
@@ -70,7 +99,7 @@ pub(crate) fn after_value(out: &mut [u8], at: usize, number: u32, x: u32) -> usi
 // How many bytes of a profile each number of a field has; none where the number names no field.
 pub(crate) fn size(number: u32) -> usize {
     match number {
-        40 | 41 | 44 => 4,
+        40 | 41 | 44 | 45 => 4,
         42 | 43 => 1,
         _ => 0,
     }
@@ -95,9 +124,18 @@ pub(crate) fn spelt(bytes: &[u8]) -> u32 {
     }
 }
 
-// The value of a profile's field.
+// The level's pattern in a profile's bytes; zero where they end before it does.
+pub(crate) fn level(bytes: &[u8]) -> u32 {
+    if bytes.len() < 42 {
+        0
+    } else {
+        spelt(&bytes[38..42])
+    }
+}
+
+// The value of a profile's field: an f32 by its pattern.
 pub(crate) fn value(out: &mut [u8], at: usize, number: u32, x: u32) -> usize {
-    if number == 41 {
+    if number == 41 || number == 45 {
         put::pattern(out, at, x)
     } else {
         put::decimal(out, at, x as u64)

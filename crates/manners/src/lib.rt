@@ -199,6 +199,7 @@ fn meaning(out: &mut [u8], at: usize, number: u32) -> usize {
         42 => put::bytes(out, at, b"the mode is outside its range"),
         43 => put::bytes(out, at, b"K is outside its range"),
         44 => put::bytes(out, at, b"a seed is outside its range"),
+        45 => put::bytes(out, at, b"the floor is outside its range"),
         _ => put::bytes(out, at, b"unknown number"),
     }
 }
@@ -235,8 +236,8 @@ fn placed(out: &mut [u8], number: u32, place: u64) -> usize {
     put::bytes(out, at, b": ")
 }
 
-// A refusal of what the bytes begin with, at a place of the profile.
-fn refuse_at(number: u32, place: usize, bytes: &[u8]) {
+// A refusal of what the bytes begin with, at a place of a profile with this level.
+fn refuse_at(number: u32, place: usize, bytes: &[u8], level: u32) {
     let n = field::size(number);
     if n == 0 || bytes.len() < n {
         return refuse(number);
@@ -246,14 +247,14 @@ fn refuse_at(number: u32, place: usize, bytes: &[u8]) {
     let at = placed(&mut out, number, place as u64);
     let at = field::before(&mut out, at, number, field::index(number, place));
     let at = field::value(&mut out, at, number, x);
-    let at = field::after_value(&mut out, at, number, x);
+    let at = field::after_value(&mut out, at, number, x, level);
     put::say(&mut out, at);
 }
 
 // A refusal of a profile's bytes: where it names a field, by what stands at the place.
 pub fn refuse_profile(number: u32, place: usize, bytes: &[u8]) {
     if place <= bytes.len() {
-        refuse_at(number, place, &bytes[place..]);
+        refuse_at(number, place, &bytes[place..], field::level(bytes));
     } else {
         refuse(number);
     }

@@ -24,6 +24,7 @@ pub enum Fault {
     Twice,
     Missing,
     Unsendable,
+    AboveHalf,
 }
 
 // What a word is as a number of a field.
@@ -35,8 +36,8 @@ pub enum Judged {
 // The numbers of all fields, how many of each field there are, and of the first mistake its kind, its field and where in its line the word
 // stands that it speaks of.
 pub struct Draft {
-    pub values: [u32; 59],
-    pub counts: [usize; 5],
+    pub values: [u32; 60],
+    pub counts: [usize; 6],
     pub fault: Fault,
     pub field: usize,
     pub from: usize,
@@ -53,8 +54,8 @@ pub struct Read {
 // Nothing read yet.
 fn empty() -> Draft {
     Draft {
-        values: [0u32; 59],
-        counts: [0usize; 5],
+        values: [0u32; 60],
+        counts: [0usize; 6],
         fault: Fault::Fine,
         field: 0,
         from: 0,
@@ -84,7 +85,7 @@ fn marked(d: Draft, fault: Fault, field: usize, from: usize, to: usize) -> Draft
 
 // One number more of a field; those after the most that it has are only counted.
 fn stored(mut d: Draft, f: usize, x: u32) -> Draft
-    requires { ⌜ f < 5 ⌝ }
+    requires { ⌜ f < 6 ⌝ }
 {
     let n = d.counts[f];
     if n < fields::most(f) {
@@ -99,8 +100,8 @@ fn stored(mut d: Draft, f: usize, x: u32) -> Draft
 
 // What a word says as a number of a field.
 fn value(f: usize, word: &[u8]) -> Number {
-    if f == fields::LEVEL {
-        number::level(word)
+    if fields::is_part(f) {
+        number::part(word)
     } else {
         number::whole(word)
     }
@@ -123,7 +124,7 @@ fn judge(f: usize, word: &[u8]) -> Judged {
 
 // The draft with the word from..to of a line as a number of a field.
 fn with_word(d: Draft, f: usize, s: &[u8], from: usize, to: usize) -> Draft
-    requires { ⌜ (f < 5) × (from ≤ to) × (to ≤ length (now s)) ⌝ }
+    requires { ⌜ (f < 6) × (from ≤ to) × (to ≤ length (now s)) ⌝ }
 {
     match judge(f, &s[from..to]) {
         Judged::Good(x) => stored(d, f, x),
@@ -133,7 +134,7 @@ fn with_word(d: Draft, f: usize, s: &[u8], from: usize, to: usize) -> Draft
 
 // The draft with all words of a line from a position on.
 fn with_words(d: Draft, f: usize, s: &[u8], at: usize) -> Draft
-    requires { ⌜ (f < 5) × (at ≤ length (now s)) ⌝ }
+    requires { ⌜ (f < 6) × (at ≤ length (now s)) ⌝ }
 {
     let mut d = d;
     let mut i = scan::end_of(Run::Blanks, s, at);
@@ -173,7 +174,7 @@ fn counted_in_line(f: usize, old: usize, new: usize) -> Fault {
 
 // The draft with a line's numbers of a field.
 fn with_numbers(d: Draft, f: usize, s: &[u8], at: usize) -> Draft
-    requires { ⌜ (f < 5) × (at ≤ length (now s)) ⌝ }
+    requires { ⌜ (f < 6) × (at ≤ length (now s)) ⌝ }
 {
     let old = d.counts[f];
     if old != 0 && f != fields::SEEDS {
@@ -203,7 +204,7 @@ fn with_line(d: Draft, s: &[u8]) -> Draft {
 
 // The first field that was not given; FIELDS where all were.
 fn missing(d: Draft) -> usize
-    ensures { λ r. ⌜ r ≤ 5 ⌝ }
+    ensures { λ r. ⌜ r ≤ 6 ⌝ }
 {
     let mut f = 0;
     while f < fields::FIELDS {
@@ -236,7 +237,13 @@ fn is_sendable(d: Draft) -> bool {
     fields::sends(d.values[fields::MODE_AT], d.values[fields::LEVEL_AT])
 }
 
-// The draft at the end of the text: first what is too much, then what is missing, then what is too little, then a level that the mode can't send.
+// Whether the floor that the text gives is at most half the level.
+fn is_under(d: Draft) -> bool {
+    fields::is_under(d.values[fields::LEVEL_AT], d.values[fields::FLOOR_AT])
+}
+
+// The draft at the end of the text: first what is too much, then what is missing, then what is too little, then a level that the mode can't send, then
+// a floor above half the level.
 fn ended(d: Draft) -> Draft {
     let n = d.counts[fields::SEEDS];
     let due = due_seeds(d);
@@ -246,6 +253,9 @@ fn ended(d: Draft) -> Draft {
     }
     if n == due && !is_sendable(d) {
         return marked(d, Fault::Unsendable, fields::LEVEL, 0, 0);
+    }
+    if n == due && !is_under(d) {
+        return marked(d, Fault::AboveHalf, fields::FLOOR, 0, 0);
     }
     marked(d, counted(n, due), fields::SEEDS, 0, 0)
 }
@@ -280,7 +290,7 @@ pub fn read_text(text: &[u8]) -> Read {
 
 // Some numbers of the draft, from a place on.
 fn part(d: Draft, first: usize, room: &mut [u32])
-    requires { ⌜ (first ≤ 11) × (length (now room) ≤ 48) ⌝ }
+    requires { ⌜ (first ≤ 12) × (length (now room) ≤ 48) ⌝ }
 {
     let mut i = 0;
     while i < room.len() {
@@ -301,5 +311,6 @@ pub fn profile_of(d: Draft) -> Profile {
         mode: (d.values[fields::MODE_AT] % 256) as u8,
         k: (d.values[fields::K_AT] % 256) as u8,
         seeds,
+        floor: parts::part_of_bits(d.values[fields::FLOOR_AT]),
     }
 }

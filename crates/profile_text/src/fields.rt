@@ -1,9 +1,10 @@
-// The fields of a text, by number: what they are called, how many numbers each has, the place of its first one among all 59, its range, and the
+// The fields of a text, by number: what they are called, how many numbers each has, the place of its first one among all 60, its range, and the
 // number that a profile is refused with for it.
 ghost use Prim.Native.Nat.{_≤_};
+use manners::field;
 use manners::same;
 
-pub const FIELDS: usize = 5;
+pub const FIELDS: usize = 6;
 
 pub const MASKS: usize = 0;
 
@@ -15,18 +16,22 @@ pub const K: usize = 3;
 
 pub const SEEDS: usize = 4;
 
-// The places of the fields' first numbers.
+pub const FLOOR: usize = 5;
+
+// The places of the fields' first numbers. The seeds are last, since they are the most: a place and a count then each have one bound.
 pub const LEVEL_AT: usize = 8;
 
 pub const MODE_AT: usize = 9;
 
 pub const K_AT: usize = 10;
 
-pub const SEEDS_AT: usize = 11;
+pub const FLOOR_AT: usize = 11;
+
+pub const SEEDS_AT: usize = 12;
 
 // The field that a word names; FIELDS where it names none.
 pub fn of(word: &[u8]) -> usize
-    ensures { λ r. ⌜ r ≤ 5 ⌝ }
+    ensures { λ r. ⌜ r ≤ 6 ⌝ }
 {
     if same(word, b"masks") {
         return MASKS;
@@ -43,18 +48,22 @@ pub fn of(word: &[u8]) -> usize
     if same(word, b"seeds") {
         return SEEDS;
     }
+    if same(word, b"floor") {
+        return FLOOR;
+    }
     FIELDS
 }
 
 // The place of a field's first number.
 pub fn first(f: usize) -> usize
-    ensures { λ r. ⌜ r ≤ 11 ⌝ }
+    ensures { λ r. ⌜ r ≤ 12 ⌝ }
 {
     match f {
         0 => 0,
         1 => LEVEL_AT,
         2 => MODE_AT,
         3 => K_AT,
+        5 => FLOOR_AT,
         _ => SEEDS_AT,
     }
 }
@@ -65,7 +74,7 @@ pub fn most(f: usize) -> usize
 {
     match f {
         0 => 8,
-        1 | 2 | 3 => 1,
+        1 | 2 | 3 | 5 => 1,
         _ => 48,
     }
 }
@@ -90,6 +99,16 @@ pub fn sends(mode: u32, level: u32) -> bool {
     modes::part_bits(mode_of(mode)) == 1 || level <= 0x7EAA_AAAA
 }
 
+// Whether the floor is at most half of D, by their patterns.
+pub fn is_under(level: u32, floor: u32) -> bool {
+    floor <= field::half(level)
+}
+
+// Whether the field's number is an f32, so that it may have a point.
+pub fn is_part(f: usize) -> bool {
+    f == LEVEL || f == FLOOR
+}
+
 // The number that a fault in the field has in a profile.
 pub fn refusal(f: usize) -> u32 {
     match f {
@@ -97,16 +116,18 @@ pub fn refusal(f: usize) -> u32 {
         1 => 41,
         2 => 42,
         3 => 43,
+        5 => 45,
         _ => 44,
     }
 }
 
-// Whether a number is in the field's range; D is judged by its pattern.
+// Whether a number is in the field's range, whatever the other fields have; D and the floor are judged by their patterns.
 pub fn in_range(f: usize, x: u32) -> bool {
     match f {
         1 => 0x0080_0000 <= x && x <= 0x7F7F_FFFF,
         2 => x < 256 && modes::is_mode(mode_of(x)),
         3 => x == 8 || x == 12 || x == 14,
+        5 => x <= 0x7F7F_FFFF,
         _ => 1 <= x && x <= 1_048_575,
     }
 }

@@ -10,6 +10,7 @@
 //     mode 0                      0 and 1: QPSK with rates 1/3 and 1/2; 2, 3 and 4: 16QAM with rates 1/3, 1/2 and 2/3, and 3 x D finite
 //     k 14                        8, 12 or 14
 //     seeds 1 2 3                 48, 32, 24, 16 and 12 in modes 0 to 4, from 1 to 1048575; more lines with seeds go on
+//     floor 0.05                  0, or a decimal number or pattern as for D; floor + floor is at most D
 //
 // Lines end as any editor ends them, and a byte order mark may stand before the text. A bad text, its first mistake, or a refused profile
 // gives one line on standard error and nothing on standard output. The bytes always come from profile::write, and what a profile says from
@@ -123,6 +124,7 @@ A text has one field a line, in any order; # starts a comment, blank lines are a
     mode 0                      0 and 1: QPSK with rates 1/3 and 1/2; 2, 3 and 4: 16QAM with rates 1/3, 1/2 and 2/3, and 3 x D finite
     k 14                        8, 12 or 14
     seeds 1 2 3                 48, 32, 24, 16 and 12 in modes 0 to 4, from 1 to 1048575; more lines with seeds go on
+    floor 0.05                  0, or a decimal number or pattern as for D; floor + floor is at most D
 
 Standard error    a refused text: its first mistake. A refused profile: its number, and what it means, with the byte where a value is
                   outside its range. Trouble: what can't be read or written. Nothing is then written to standard output.

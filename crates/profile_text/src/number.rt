@@ -1,14 +1,14 @@
-// Numbers as a text has them: whole ones, decimal or 0x and hexadecimal, and D, a decimal number or 0x and the f32's pattern.
+// Numbers as a text has them: whole ones, decimal or 0x and hexadecimal, and f32 values, as D, a decimal number or 0x and the pattern.
 ghost use Prim.Native.Nat.{_≤_, _<_};
 use super::scan;
 use super::scan::Run;
 
-// The most that a decimal number for D has, leading zeros aside, and after the point: both it and the power of ten are then f32 exactly.
+// The most that a decimal number for an f32 has, leading zeros aside, and after the point: both it and the power of ten are then f32 exactly.
 const MOST: u32 = 9_999_999;
 
 const PLACES: usize = 10;
 
-// What a word is as a number: too many digits is only said of D.
+// What a word is as a number: too many digits is only said of an f32.
 pub enum Number {
     Is(u32),
     Not,
@@ -117,8 +117,8 @@ fn decimal(before: &[u8], after: &[u8]) -> Number {
     Number::Is(parts::bits_of_part(quotient(m, after.len())))
 }
 
-// D's pattern.
-pub fn level(s: &[u8]) -> Number {
+// The pattern of an f32.
+pub fn part(s: &[u8]) -> Number {
     if is_hex(s) {
         return whole(s);
     }

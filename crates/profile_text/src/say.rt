@@ -3,6 +3,7 @@ use super::draft;
 use super::draft::Draft;
 use super::draft::Fault;
 use super::fields;
+use super::show;
 use manners::field;
 use manners::put;
 
@@ -19,6 +20,7 @@ pub fn name(out: &mut [u8], at: usize, f: usize) -> usize {
         1 => put::bytes(out, at, b"level"),
         2 => put::bytes(out, at, b"mode"),
         3 => put::bytes(out, at, b"k"),
+        5 => put::bytes(out, at, b"floor"),
         _ => put::bytes(out, at, b"seeds"),
     }
 }
@@ -107,6 +109,13 @@ fn unsendable(out: &mut [u8], at: usize, d: Draft) -> usize {
     field::after_in_mode(out, at)
 }
 
+// A floor above half the level, as `show` has it.
+fn above_half(out: &mut [u8], at: usize, d: Draft) -> usize {
+    let at = field::before(out, at, fields::refusal(fields::FLOOR), 0);
+    let at = show::value(out, at, parts::part_of_bits(d.values[fields::FLOOR_AT]));
+    field::after_at_level(out, at, d.values[fields::LEVEL_AT])
+}
+
 // A word that is no number, and what is one.
 fn no_number(out: &mut [u8], at: usize, f: usize, s: &[u8]) -> usize {
     let at = word(
@@ -115,7 +124,7 @@ fn no_number(out: &mut [u8], at: usize, f: usize, s: &[u8]) -> usize {
         s,
         b"\" is not a number, a plain decimal or 0x number is due",
     );
-    if f == fields::LEVEL {
+    if fields::is_part(f) {
         at
     } else {
         put::bytes(out, at, b", with no point")
@@ -158,10 +167,11 @@ fn what(out: &mut [u8], at: usize, d: Draft, f: usize, s: &[u8]) -> usize {
             out,
             at,
             s,
-            b"\" is an unknown word, the words are masks, level, mode, k and seeds",
+            b"\" is an unknown word, the words are masks, level, mode, k, seeds and floor",
         ),
         Fault::OutOfRange => outside(out, at, d, f, s),
         Fault::Unsendable => unsendable(out, at, d),
+        Fault::AboveHalf => above_half(out, at, d),
         _ => {
             let at = name(out, at, f);
             let at = put::bytes(out, at, b": ");

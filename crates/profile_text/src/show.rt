@@ -51,15 +51,15 @@ fn used(out: &mut [u8], at: usize, l: [u32; 48], mode: u8) -> usize {
     seeds(out, at, &l[0..n])
 }
 
-// The least m of at most 7 digits with m / 10^n at least D; 9999999 where none is.
-fn digits(level: f32, n: usize) -> u32
+// The least m of at most 7 digits with m / 10^n at least x; 9999999 where none is.
+fn digits(x: f32, n: usize) -> u32
     ensures { λ r. ⌜ r ≤ 9999999 ⌝ }
 {
     let mut low: u32 = 0;
     let mut high: u32 = 9_999_999;
     while low < high {
         let m = (low + high) / 2;
-        if super::number::quotient(m, n) < level {
+        if super::number::quotient(m, n) < x {
             low = m + 1;
         } else {
             high = m;
@@ -68,11 +68,11 @@ fn digits(level: f32, n: usize) -> u32
     low
 }
 
-// How many digits after the point D needs as a decimal number of at most 7 digits; 11 where no such number is D.
-fn places(level: f32) -> usize {
+// How many digits after the point x needs as a decimal number of at most 7 digits; 11 where no such number is x.
+fn places(x: f32) -> usize {
     let mut n = 0;
     while n <= 10 {
-        if super::number::quotient(digits(level, n), n) == level {
+        if super::number::quotient(digits(x, n), n) == x {
             return n;
         }
         n += 1;
@@ -113,20 +113,21 @@ fn zeros(out: &mut [u8], at: usize, n: usize) -> usize {
     }
 }
 
-// D as a decimal number that `make` turns into the same f32, or else its pattern.
-fn value(out: &mut [u8], at: usize, level: f32) -> usize {
-    let n = places(level);
+// An f32 as a decimal number that `make` turns into the same one, or else its pattern.
+pub fn value(out: &mut [u8], at: usize, x: f32) -> usize {
+    let n = places(x);
     if n <= 10 {
-        quotient(out, at, digits(level, n), n)
+        quotient(out, at, digits(x, n), n)
     } else {
-        put::pattern(out, at, parts::bits_of_part(level))
+        put::pattern(out, at, parts::bits_of_part(x))
     }
 }
 
-// D's line.
-fn level(out: &mut [u8], at: usize, level: f32) -> usize {
-    let at = put::bytes(out, at, b"level ");
-    let at = value(out, at, level);
+// The line of a field that is an f32.
+fn part(out: &mut [u8], at: usize, f: usize, x: f32) -> usize {
+    let at = say::name(out, at, f);
+    let at = put::bytes(out, at, b" ");
+    let at = value(out, at, x);
     put::bytes(out, at, b"\n")
 }
 
@@ -134,9 +135,10 @@ fn level(out: &mut [u8], at: usize, level: f32) -> usize {
 pub fn text(out: &mut [u8], p: Profile) -> usize {
     let masks = p.masks;
     let at = line(out, 0, fields::MASKS, &masks);
-    let at = level(out, at, p.level);
+    let at = part(out, at, fields::LEVEL, p.level);
     let at = line(out, at, fields::MODE, &[p.mode as u32]);
     let at = line(out, at, fields::K, &[p.k as u32]);
     let seeds = p.seeds;
-    used(out, at, seeds, p.mode)
+    let at = used(out, at, seeds, p.mode);
+    part(out, at, fields::FLOOR, p.floor)
 }

@@ -1,14 +1,14 @@
--- There are five counts.
+-- There are six counts.
 use Prim.Native.Nat.{_≤_, _-_}
 use borrow.Author.Needs.{needs}
 use Rattle.profile_text.proofs.draft.missing.Statement.{statement}
 use Rattle.profile_text.proofs.draft.missing.Tie as tie
 
 abbrev Inv-loop : tie.InvT-loop
-Inv-loop d f₀ f = f ≤ 5
+Inv-loop d f₀ f = f ≤ 6
 
 abbrev μ-loop : tie.MeasureT-loop
-μ-loop d f₀ f = 5 - f
+μ-loop d f₀ f = 6 - f
 
 loop-holds : tie.Need-loop-holds Inv-loop μ-loop
 loop-holds c = search needs

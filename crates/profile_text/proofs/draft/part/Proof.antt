@@ -1,4 +1,4 @@
--- The room keeps its length, and the places lie among the 59.
+-- The room keeps its length, and the places lie among the 60.
 use mathlib.Core.Path.{_≡_}
 use Prim.Native.Nat.{_≤_, _-_}
 use lib.ListN.{length}

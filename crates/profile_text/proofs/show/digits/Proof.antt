@@ -5,10 +5,10 @@ use Rattle.profile_text.proofs.show.digits.Statement.{statement}
 use Rattle.profile_text.proofs.show.digits.Tie as tie
 
 abbrev Inv-loop : tie.InvT-loop
-Inv-loop level n low₀ high₀ low high = (low ≤ high) × (high ≤ 9999999)
+Inv-loop x n low₀ high₀ low high = (low ≤ high) × (high ≤ 9999999)
 
 abbrev μ-loop : tie.MeasureT-loop
-μ-loop level n low₀ high₀ low high = high - low
+μ-loop x n low₀ high₀ low high = high - low
 
 loop-holds : tie.Need-loop-holds Inv-loop μ-loop
 loop-holds c = search needs

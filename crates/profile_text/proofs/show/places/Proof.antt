@@ -5,10 +5,10 @@ use Rattle.profile_text.proofs.show.places.Statement.{statement}
 use Rattle.profile_text.proofs.show.places.Tie as tie
 
 abbrev Inv-loop : tie.InvT-loop
-Inv-loop level n₀ n = n ≤ 11
+Inv-loop x n₀ n = n ≤ 11
 
 abbrev μ-loop : tie.MeasureT-loop
-μ-loop level n₀ n = 11 - n
+μ-loop x n₀ n = 11 - n
 
 loop-holds : tie.Need-loop-holds Inv-loop μ-loop
 loop-holds c = search needs
