@@ -3,6 +3,7 @@
 
 mod check_compare;
 mod check_examples;
+mod check_floor;
 mod check_pieces;
 mod check_places;
 mod check_profile;
@@ -25,6 +26,7 @@ fn main() {
     check_send::run(&mut random, &mut tally);
     check_receive::run(&mut random, &mut tally);
     check_pieces::run(&mut random, &mut tally);
+    check_floor::run(&mut random, &mut tally);
     check_compare::run(&mut random, &mut tally);
     if !tally.report() {
         std::process::exit(1);

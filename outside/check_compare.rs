@@ -374,8 +374,8 @@ fn sent_cases(random: &mut Random, tally: &mut Tally, mode: u8, k: u8) {
     let mut silent = grid.clone();
     silent[1][2048] = 0x8000_0000; // no slot has cell 2048
     let one = sent_case(random, tally, "-0.0 in a silent cell", &grid, &silent);
-    profile.level = if profile.level == 1.0 { 2.0 } else { 1.0 };
-    let all = sent_case(random, tally, "another level", &grid, &sent(&profile, &data));
+    profile = Profile { level: if profile.level == 1.0 { 2.0 } else { 1.0 }, floor: 0.5, ..profile };
+    let all = sent_case(random, tally, "another level and floor", &grid, &sent(&profile, &data));
 
     let in_block = |places: &[usize]| !places.is_empty() && places.iter().all(|&place| cells.get(place) == Some(&true));
     if !none.is_empty() || !in_block(&some) || !in_block(&many) || one != [2048] || all != block {

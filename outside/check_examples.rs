@@ -1,8 +1,8 @@
-//! Document 01's printed examples, the ends of Req 01's order, Req 06's figures, source document 000's points, and states and coded packets worked
-//! out by hand and by flo.py, held against the plain program before it is used as a measure.
+//! Document 01's printed examples, the ends of Req 01's order, Req 06's and Req 07's figures, source document 000's points, and states, decisions and
+//! coded packets worked out by hand and by flo.py, held against the plain program before it is used as a measure.
 
 use crate::check_tools::{Tally, LARGEST};
-use crate::plain::{self, Came, Encoder, Profile, Rate, CELLS, CODED, PACKET};
+use crate::plain::{self, Answer, Came, Encoder, Profile, Rate, BAD_FLOOR, CELLS, CODED, PACKET};
 
 /// Compares one example and counts a difference when it doesn't come out.
 fn example<T: PartialEq + std::fmt::Debug>(tally: &mut Tally, name: &str, came: T, printed: T) {
@@ -110,7 +110,7 @@ fn coded(tally: &mut Tally) {
 
 /// K = 14, cells as sent, packets 2, 5 and 9 marked.
 fn report(tally: &mut Tally, mode: u8) {
-    let mut profile = Profile { masks: [1; 8], level: 1.0, mode, k: 14, seeds: [0; 48] };
+    let mut profile = Profile { masks: [1; 8], level: 1.0, mode, k: 14, ..Profile::ZERO };
     let (slots, cells) = (profile.slots(), CELLS * profile.symbols());
     profile.seeds[..slots].fill(1);
     let mut data = vec![0; profile.data_length()];
@@ -151,6 +151,71 @@ fn qam_state(tally: &mut Tally) {
     example(tally, "a full state's ends in mode 4", (came.state()[0], came.state()[2 * CELLS + 1], came.state()[2 * CELLS + 2]), (0x20, 24, 0));
 }
 
+/// With floors: D = 1 and floor 0.25 in mode 1, where only parts from -0.25 to 0.25 are doubtful, then D = 0.5 and floor 0.25 in mode 4, where also
+/// those from 0.75 to 1.25 are and those from -1.25 to -0.75.
+fn floor_states(tally: &mut Tally) {
+    let bytes = |profile: &Profile, parts: &[f32]| {
+        let mut came = Came::nothing();
+        came.feed(profile, parts, &vec![profile.level; parts.len()]);
+        came.state()[2..2 + parts.len()].to_vec()
+    };
+    let step = |part: f32, up: i32| f32::from_bits((part.to_bits() as i32 + up) as u32);
+    let qpsk = Profile { mode: 1, level: 1.0, floor: 0.25, ..Profile::ZERO };
+    let parts = [0.25, step(0.25, 1), step(0.25, -1), -0.25, step(-0.25, 1), step(-0.25, -1), 0.0, -0.0, f32::NAN, f32::INFINITY, 2.0, -2.0];
+    example(tally, "a state's bytes with a floor", bytes(&qpsk, &parts), vec![2, 0, 2, 2, 1, 2, 2, 2, 2, 0, 0, 1]);
+    let qam = Profile { mode: 4, level: 0.5, floor: 0.25, ..Profile::ZERO };
+    let (low, high) = (0.75, 1.25);
+    let parts = [0.25, step(0.25, 1), -0.25, step(-0.25, 1), step(low, -1), low, step(low, 1), step(high, -1), high, step(high, 1), 1.0];
+    let inner = 5 * 2; // of the second parts, which are D
+    let known = [4, 2, 4, 3, 2, 4, 4, 4, 4, 0, 4].map(|decision| decision + inner);
+    example(tally, "a state's bytes in mode 4 with a floor", bytes(&qam, &parts), known.to_vec());
+    let negatives = parts.map(|part| -part);
+    let known = [4, 3, 4, 2, 3, 4, 4, 4, 4, 1, 4].map(|decision| decision + inner);
+    example(tally, "a state's bytes in mode 4 with a floor", bytes(&qam, &negatives), known.to_vec());
+}
+
+/// Some of the decisions that `python3 outside/flo.py vectors` prints: mode, level, floor, part, decision.
+const DECISIONS: [(u8, u32, u32, u32, u8); 16] = [
+    (0, 0x3FC0_0000, 0x3F40_0000, 0x3F40_0000, 2),
+    (0, 0x3FC0_0000, 0x3F40_0000, 0xBF40_0001, 1),
+    (0, 0x0080_0000, 0x0000_0001, 0x8000_0001, 2),
+    (0, 0x0080_0000, 0x0000_0001, 0x0000_0002, 0),
+    (2, 0x3F80_0000, 0x33A0_0000, 0x3FFF_FFFE, 2),
+    (2, 0x3F80_0000, 0x33A0_0000, 0xBFFF_FFFF, 4),
+    (2, 0x3F80_0000, 0x33A0_0000, 0x4000_0001, 0),
+    (2, 0x3F80_0001, 0x3E80_0000, 0x3FE0_0001, 2),
+    (2, 0x3F80_0001, 0x3E80_0000, 0xBFE0_0002, 4),
+    (2, 0x3F80_0001, 0x3E80_0000, 0x4010_0001, 4),
+    (2, 0x3F80_0001, 0x3F00_0001, 0xC020_0001, 4),
+    (2, 0x3F80_0001, 0x3F00_0001, 0xC020_0002, 1),
+    (2, 0x0080_0000, 0x0000_0001, 0x80FF_FFFF, 4),
+    (2, 0x0080_0000, 0x0000_0001, 0x80FF_FFFE, 3),
+    (2, 0x7EAA_AAAA, 0x7E2A_AAAA, 0x7F55_5554, 4),
+    (2, 0x7EAA_AAAA, 0x7E2A_AAAA, 0x7F55_5555, 0),
+];
+
+/// Bytes of a profile in each mode, and where its floor stands, by flo.h.
+const FLOORS: [(usize, usize); 5] = [(252, 248), (188, 184), (156, 152), (124, 120), (108, 104)];
+
+fn floors(tally: &mut Tally) {
+    floor_states(tally);
+    for (mode, level, floor, part, decided) in DECISIONS {
+        let profile = Profile { mode, level: f32::from_bits(level), floor: f32::from_bits(floor), ..Profile::ZERO };
+        example(tally, "a decision by flo.py", plain::decision(&profile, f32::from_bits(part)), decided);
+    }
+    for (mode, (count, place)) in (0..).zip(FLOORS) {
+        let mut right = Profile { masks: [1; 8], level: 1.0, mode, k: 8, floor: 0.5, ..Profile::ZERO };
+        let slots = right.slots();
+        right.seeds[..slots].fill(1);
+        let (answer, bytes, came) = plain::write_profile(&right);
+        example(tally, "a profile's length", (answer.number, came, bytes.len()), (0, count, 252));
+        example(tally, "its last field", bytes[count - 7..count].to_vec(), vec![6, 0, 4, 0x3F, 0, 0, 0]);
+        let known = Answer { number: BAD_FLOOR, place };
+        example(tally, "a bad floor's place", plain::write_profile(&Profile { floor: -0.0, ..right }).0, known);
+        example(tally, "an old profile", plain::read_profile(&bytes[..count - 7]).0, 5.into());
+    }
+}
+
 /// States after the first cells of a grid: the check words that `python3 outside/flo.py state` prints.
 const STATES: [(u8, [u16; 5]); 4] = [
     (1, [0x8495, 0x089B, 0xB1FD, 0xE857, 0xE5FF]),
@@ -186,5 +251,6 @@ pub fn run(tally: &mut Tally) {
     (0..5).for_each(|mode| report(tally, mode));
     state(tally);
     qam_state(tally);
+    floors(tally);
     states(tally);
 }

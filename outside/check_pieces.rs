@@ -1,11 +1,12 @@
 //! The tests of feeding and asking: grids cut in every way, with early questions, refused pieces and spoilt states between the pieces; cells whose
-//! parts lie on the lines that decide and next to them.
+//! parts lie at the ends of the doubtful ranges and next to them.
 //!
 //! After every call the state is compared with the plain program's byte for byte; at a grid's end the answer is also compared with both
 //! programs' for the whole grid.
 
+use crate::check_floor::edge_parts;
 use crate::check_profile::{damaged, edge_profiles, random_profile, written, KS, MODES};
-use crate::check_receive::{any_grid, clean_grid, line_parts, Receiving};
+use crate::check_receive::{any_grid, clean_grid, Receiving};
 use crate::check_send::often_right;
 use crate::check_tools::{Call, Given, Random, Room, Tally};
 use crate::library;
@@ -229,10 +230,19 @@ fn cut_cases(random: &mut Random, tally: &mut Tally, spare: &[f32], mode: u8) {
     }
 }
 
-/// Cells with every two of the parts on the lines and next to them: the bytes that they leave are known beforehand.
-fn line_case(random: &mut Random, tally: &mut Tally, mode: u8) {
-    let profile = random_profile(random, mode, 12);
-    let parts = line_parts(&profile);
+/// A grid in three pieces, the last of one cell, and asked for: the answer is that for the whole grid.
+pub fn fed_case(random: &mut Random, tally: &mut Tally, spare: &[f32], grid: Receiving) {
+    let mut feeding = Feeding::new(random, spare, grid);
+    let first = random.below(feeding.rest());
+    feeding.next(tally, first);
+    feeding.next(tally, feeding.rest() - 1);
+    feeding.next(tally, 1);
+    feeding.at_end(random, tally);
+}
+
+/// Cells with every two of the parts at the ends of the doubtful ranges and next to them: the bytes that they leave are known beforehand.
+pub fn state_case(random: &mut Random, tally: &mut Tally, profile: &Profile) {
+    let parts = edge_parts(profile);
     let cells: Vec<(usize, usize)> = (0..parts.len()).flat_map(|i| (0..parts.len()).map(move |j| (i, j))).collect();
     let (firsts, seconds): (Vec<f32>, Vec<f32>) = cells.iter().map(|&(i, j)| (parts[i].1, parts[j].1)).unzip();
     let decision = |i: usize| match parts[i].2.as_deref() {
@@ -245,12 +255,12 @@ fn line_case(random: &mut Random, tally: &mut Tally, mode: u8) {
     known[..2].copy_from_slice(&(cells.len() as u16).to_be_bytes());
     known[2..].iter_mut().zip(&cells).for_each(|(byte, &(i, j))| *byte = decision(i) + base * decision(j));
     let mut came = Came::nothing();
-    let plain = came.feed(&profile, &firsts, &seconds);
+    let plain = came.feed(profile, &firsts, &seconds);
     if plain != 0 || came.state() != known {
-        tally.difference("feed, parts on the lines: the plain program's state isn't the known one");
+        tally.difference("feed, parts at the ends: the plain program's state isn't the known one");
     }
     let mut state = lent(random, &[0; STATE]);
-    compare_feed(tally, "parts on the lines", &written(&profile), &mut state, (&firsts, &seconds), plain.into(), &known);
+    compare_feed(tally, "parts at the ends", &written(profile), &mut state, (&firsts, &seconds), plain.into(), &known);
 }
 
 // ---- states from elsewhere: the plain program says by its own test whether any cells leave them
@@ -381,7 +391,10 @@ pub fn run(random: &mut Random, tally: &mut Tally) {
         cut_cases(random, tally, &spare, mode);
         strange_cases(random, tally, &spare, mode);
         KS.into_iter().for_each(|k| wrong_cases(random, tally, &spare, mode, k));
-        (0..30).for_each(|_| line_case(random, tally, mode));
+        for _ in 0..30 {
+            let profile = random_profile(random, mode, 12);
+            state_case(random, tally, &profile);
+        }
     }
     for (mode, k) in [(0, 12), (2, 14), (4, 8)] {
         let feeding = Feeding::any(random, &spare, mode, k);

@@ -1,5 +1,6 @@
 //! Profiles: right ones, damaged ones, and the tests of reading and writing them. check_places.rs has those of numbers outside their range.
 
+use crate::check_floor::{most_floor, LEAST_HALF};
 use crate::check_places::Spot;
 use crate::check_tools::{same, Call, Given, Random, Tally, LARGEST};
 use crate::library;
@@ -8,8 +9,14 @@ use crate::plain::{self, Answer, Profile, PROFILE};
 pub const MODES: [u8; 5] = [0, 1, 2, 3, 4];
 pub const KS: [u8; 3] = [8, 12, 14];
 
-/// Where the five fields begin; the fifth goes to the end.
-pub const STARTS: [usize; 5] = [0, 35, 42, 46, 50];
+/// Where the six fields of a profile with so many seeds begin; the sixth goes to the end.
+pub fn starts(slots: usize) -> [usize; 6] {
+    [0, 35, 42, 46, 50, 53 + 4 * slots]
+}
+
+/// Bytes of a profile but for its seeds.
+const WITHOUT_SEEDS: usize = 60;
+
 /// The smallest levels and the largest; those from the fourth on only modes 0 and 1 can send. Some between.
 const EDGE_LEVELS: [u32; 8] = [0x0080_0000, 0x0080_0001, LARGEST - 1, LARGEST, LARGEST + 1, 0x7F7F_FFFF, 0x3F80_0000, 0x3F7F_FFFF];
 
@@ -35,8 +42,22 @@ fn random_level(random: &mut Random, mode: u8) -> f32 {
     f32::from_bits(if random.percent(20) && edge <= most { edge } else { any })
 }
 
+/// A floor that the level allows: +0.0, the least, the largest and the one before it, any, and any that every level allows.
+fn random_floor(random: &mut Random, level: f32) -> f32 {
+    let most = most_floor(level);
+    let (any, small) = (random.below(most as usize + 1) as u32, random.below(LEAST_HALF as usize + 1) as u32);
+    let near = most - random.below(most.min(0x0400_0000) as usize) as u32;
+    f32::from_bits(random.pick(&[0, 0, 1, small, any, near, near, most - 1, most]))
+}
+
+/// The profile with another level, and a floor that it allows.
+pub fn with_level(profile: Profile, random: &mut Random, level: f32) -> Profile {
+    Profile { level, floor: random_floor(random, level), ..profile }
+}
+
 pub fn random_profile(random: &mut Random, mode: u8, k: u8) -> Profile {
-    let mut profile = Profile { level: random_level(random, mode), mode, k, ..Profile::ZERO };
+    let level = random_level(random, mode);
+    let mut profile = with_level(Profile { mode, k, ..Profile::ZERO }, random, level);
     profile.masks.iter_mut().for_each(|mask| *mask = random_state(random));
     let slots = profile.slots();
     profile.seeds[..slots].iter_mut().for_each(|seed| *seed = random_state(random));
@@ -45,7 +66,7 @@ pub fn random_profile(random: &mut Random, mode: u8, k: u8) -> Profile {
 
 /// Two profiles with the least level that the mode can send and with the largest.
 pub fn edge_profiles(random: &mut Random, mode: u8, k: u8) -> [Profile; 2] {
-    [0x0080_0000, largest_level(mode)].map(|level| Profile { level: f32::from_bits(level), ..random_profile(random, mode, k) })
+    [0x0080_0000, largest_level(mode)].map(|level| with_level(random_profile(random, mode, k), random, f32::from_bits(level)))
 }
 
 pub fn written(profile: &Profile) -> Vec<u8> {
@@ -60,20 +81,18 @@ fn wrong_length(random: &mut Random, right: u16) -> u16 {
 
 /// One damage of a profile that is still in one piece; its kind and place are random.
 fn damage(random: &mut Random, mut bytes: Vec<u8>) -> Vec<u8> {
-    let f = random.below(5);
-    let (start, end) = (STARTS[f], *STARTS.get(f + 1).unwrap_or(&bytes.len()));
+    let (f, slots) = (random.below(6), (bytes.len() - WITHOUT_SEEDS) / 4);
+    let starts = starts(slots);
+    let (start, end) = (starts[f], *starts.get(f + 1).unwrap_or(&bytes.len()));
     match random.below(10) {
         0 => bytes.truncate(start),
         1 => bytes.truncate(start + 1 + random.below(end - start - 1)),
-        2 => bytes[start] = random.pick(&[0, 1, 2, 3, 4, 5, 6, 255]),
+        2 => bytes[start] = random.pick(&[0, 1, 2, 3, 4, 5, 6, 7, 255]),
         3 => {
             let right = u16::from_be_bytes([bytes[start + 1], bytes[start + 2]]);
             bytes[start + 1..start + 3].copy_from_slice(&wrong_length(random, right).to_be_bytes());
         }
-        4 | 5 => {
-            let slots = (bytes.len() - STARTS[4] - 3) / 4;
-            Spot::any_in(random, f, slots).spoil(random, slots, &mut bytes);
-        }
+        4 | 5 => Spot::any_in(random, f, slots).spoil(random, slots, &mut bytes),
         6 => drop(bytes.drain(start..end)),
         7 => {
             let surplus = 1 + random.below(8);
@@ -83,7 +102,7 @@ fn damage(random: &mut Random, mut bytes: Vec<u8>) -> Vec<u8> {
             let place = random.below(bytes.len());
             bytes[place] = random.next() as u8;
         }
-        _ => bytes[STARTS[2] + 3] = random.pick(&[0, 1, 2, 3, 4, 5]),
+        _ => bytes[starts[2] + 3] = random.pick(&[0, 1, 2, 3, 4, 5]),
     }
     bytes
 }
@@ -99,7 +118,7 @@ pub fn damaged(random: &mut Random, profile: &Profile) -> Vec<u8> {
 }
 
 fn same_profile(a: &Profile, b: &Profile) -> bool {
-    a.masks == b.masks && a.seeds == b.seeds && same(&[a.level], &[b.level]) && a.mode == b.mode && a.k == b.k
+    a.masks == b.masks && a.seeds == b.seeds && same(&[a.level, a.floor], &[b.level, b.floor]) && a.mode == b.mode && a.k == b.k
 }
 
 fn read_case(tally: &mut Tally, label: &str, bytes: &[u8]) -> Answer {
@@ -121,8 +140,9 @@ pub fn expect(tally: &mut Tally, known: Answer, label: &str, bytes: &[u8]) {
 fn each_field(tally: &mut Tally, profile: &Profile) {
     let right = written(profile);
     let mut expect = |number: u32, label: &str, bytes: &[u8]| expect(tally, number.into(), label, bytes);
-    for f in 0..5 {
-        let (start, end) = (STARTS[f], *STARTS.get(f + 1).unwrap_or(&right.len()));
+    let starts = starts(profile.slots());
+    for f in 0..6 {
+        let (start, end) = (starts[f], *starts.get(f + 1).unwrap_or(&right.len()));
         expect(5, "ends between fields", &right[..start]);
         (start + 1..end).for_each(|cut| expect(1, "ends inside a field", &right[..cut]));
         for tag in (0..=255).filter(|&tag| tag != right[start]) {
@@ -142,7 +162,7 @@ fn each_field(tally: &mut Tally, profile: &Profile) {
     }
 }
 
-/// Bytes after the fifth field; every bit turned; every mode and K byte.
+/// Bytes after the sixth field; every bit turned; every mode and K byte.
 fn each_byte(random: &mut Random, tally: &mut Tally, profile: &Profile) {
     let right = written(profile);
     expect(tally, 0.into(), "a right profile", &right);
@@ -151,8 +171,10 @@ fn each_byte(random: &mut Random, tally: &mut Tally, profile: &Profile) {
         let mut bytes = right.clone();
         bytes.extend(random.bytes(surplus));
         expect(tally, number.into(), "surplus bytes", &bytes);
-        bytes[right.len()] = 6;
-        expect(tally, number.into(), "surplus bytes", &bytes);
+        for tag in [6, 7] {
+            bytes[right.len()] = tag;
+            expect(tally, number.into(), "surplus bytes", &bytes);
+        }
     }
     for place in 0..8 * right.len() {
         let mut bytes = right.clone();
@@ -162,7 +184,7 @@ fn each_byte(random: &mut Random, tally: &mut Tally, profile: &Profile) {
     for value in 0..=255 {
         for field in [2, 3] {
             let mut bytes = right.clone();
-            bytes[STARTS[field] + 3] = value;
+            bytes[starts(0)[field] + 3] = value;
             read_case(tally, "any mode or K", &bytes);
         }
     }

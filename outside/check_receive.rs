@@ -1,8 +1,9 @@
-//! The tests of receiving: clean grids, marks, other levels, every kind of fault in random packets and at their ends, parts on the lines that
-//! decide and next to them, garbage elsewhere, refusals.
+//! The tests of receiving: clean grids, marks, other levels, every kind of fault in random packets and at their ends, parts at the ends of the
+//! doubtful ranges and next to them, garbage elsewhere, refusals. check_floor.rs says where these ranges end.
 //!
 //! Where a fault is made so that its reason is known beforehand, that is compared too; so the plain receiver is tested as well.
 
+use crate::check_floor::{edge_parts, ends};
 use crate::check_profile::{damaged, edge_profiles, random_profile, written, KS, MODES};
 use crate::check_send::{near, often_right};
 use crate::check_tools::{Call, Given, Kind, Random, Room, Tally, LARGEST};
@@ -16,7 +17,7 @@ const FEW: u8 = 1;
 const FAULTS: [u8; 7] = [MARKED, DOUBTFUL, CHECK_WORD, RESERVED, CODED_BITS, DESTROYED, FEW];
 /// Both zeros and NaNs of both signs, quiet and signalling.
 const DOUBTS: [u32; 8] = [0, 0x8000_0000, 0, 0x8000_0000, 0x7FC0_0000, 0xFFC0_0000, 0x7F80_0001, 0xFFFF_FFFF];
-/// Infinity, the largest, the smallest normal, and subnormal numbers: in QPSK no doubt in any of them.
+/// Infinity, the largest, the smallest normal, and subnormal numbers.
 const STRENGTHS: [u32; 6] = [0x7F80_0000, 0x7F7F_FFFF, 0x0080_0000, 0x007F_FFFF, 0x0000_0001, 0x3F80_0000];
 
 /// The float after a positive one, and the one before it.
@@ -32,18 +33,18 @@ fn is_qam(profile: &Profile) -> bool {
     profile.part_bits() == 2
 }
 
-/// A positive part of any size that decides as the inner level or as the outer one does; in QPSK there is one level.
+/// A positive part of any size that decides as the inner level or as the outer one does; in QPSK there is one level. The first and the last of these
+/// come more often.
 fn strength(random: &mut Random, profile: &Profile, is_inner: bool) -> f32 {
-    let (level, line) = (profile.level, 2.0 * profile.level);
-    if !is_qam(profile) {
-        f32::from_bits(random.pick(&STRENGTHS))
-    } else if is_inner {
-        let any = f32::from_bits(1 + random.below(line.to_bits() as usize - 1) as u32);
-        random.pick(&[level, before(line), before(level), f32::MIN_POSITIVE, f32::from_bits(0x007F_FFFF), f32::from_bits(1), any])
-    } else {
-        let any = f32::from_bits(line.to_bits() + 1 + random.below((0x7F80_0000 - line.to_bits()) as usize) as u32);
-        random.pick(&[3.0 * level, after(line), before(3.0 * level), f32::MAX, f32::INFINITY, any])
-    }
+    let (ends, inner, outer) = (ends(profile), profile.level, 3.0 * profile.level);
+    let (level, first, last) = match ends.line {
+        None => (inner, ends.floor + 1, 0x7F80_0000),
+        Some((low, _)) if is_inner => (inner, ends.floor + 1, low - 1),
+        Some((_, high)) => (outer, high + 1, 0x7F80_0000),
+    };
+    let any = first + random.below((last - first) as usize + 1) as u32;
+    let special = random.pick(&STRENGTHS).clamp(first, last);
+    f32::from_bits(random.pick(&[level.to_bits(), before(level).to_bits(), first, last, any, special]))
 }
 
 /// The reason when just these bits of a packet are wrong, one to three of them: three wrong bits are too few to make another check word right.
@@ -173,11 +174,14 @@ impl Receiving {
         }
     }
 
-    /// A part that no bits can be read from. In 16QAM it may also lie on one of the two lines.
+    /// A part that no bits can be read from: zero, NaN, or in one of the doubtful ranges, at times at an end.
     fn doubt(&self, random: &mut Random) -> f32 {
-        let line = 2.0 * self.profile.level;
-        let of_zero = f32::from_bits(random.pick(&DOUBTS));
-        if is_qam(&self.profile) { random.pick(&[of_zero, line, -line]) } else { of_zero }
+        let ends = ends(&self.profile);
+        let (low, high) = ends.line.unwrap_or((0, ends.floor));
+        let [any, around] = [(0, ends.floor), (low, high)].map(|(first, last)| first + random.below((last - first) as usize + 1) as u32);
+        let size = random.pick(&[0, ends.floor, any, low, high, around]) | random.pick(&[0, 1 << 31]);
+        let doubt = random.pick(&DOUBTS);
+        f32::from_bits(random.pick(&[doubt, size, size]))
     }
 
     /// Turns one to three bits, wherever they are. Returns them.
@@ -230,6 +234,29 @@ impl Receiving {
         }
         for cell in (0..own.len()).filter(|&cell| !own[cell]) {
             (self.firsts[cell], self.seconds[cell]) = (random.float(), random.float());
+        }
+    }
+
+    /// The same grid received with another profile, and the reason that all packets must then have; where it isn't known, nor is what comes back.
+    pub fn under(self, profile: &Profile, reason: Option<u8>) -> Receiving {
+        Receiving { bytes: written(profile), reasons: [reason; PACKETS], data: self.data.filter(|_| reason.is_some()), ..self }
+    }
+
+    /// One of these parts in each packet of a grid as sent, beginning with the `from`th: the packet is accepted where the part decides as the one that
+    /// was sent, and else the bits that it decides to say why not.
+    pub fn put_parts(&mut self, random: &mut Random, tally: &mut Tally, parts: &[(Kind, f32, Option<Vec<u8>>)], from: usize) {
+        let profile = self.profile;
+        for p in 0..PACKETS {
+            let (kind, part, bits) = &parts[(from + p) % parts.len()];
+            let b = profile.part_bits() * random.below(self.parts().len());
+            let sent = std::mem::replace(self.part(p, b), *part);
+            let (_, _, sent) = parts.iter().find(|(kind, part, _)| matches!(kind, Kind::AsSent) && *part == sent).expect("a part that is sent");
+            let wrong = |bits: &Vec<u8>| (0..bits.len()).filter(|&i| Some(bits[i]) != sent.as_ref().map(|sent| sent[i])).map(|i| b + i).collect();
+            let wrong: Option<Vec<usize>> = bits.as_ref().map(wrong);
+            self.reasons[p] = Some(wrong.map_or(DOUBTFUL, |wrong| reason_of(profile.rate(), &wrong)));
+            if is_qam(&profile) {
+                tally.kind(*kind);
+            }
         }
     }
 
@@ -344,7 +371,7 @@ fn fault_cases(random: &mut Random, tally: &mut Tally, mode: u8, k: u8) {
     }
 }
 
-/// Grids as sent, with any marks; in modes 0 and 1 received under a profile whose D, which doesn't matter there, is another.
+/// Grids as sent, with any marks; in modes 0 and 1 received under a profile whose D, which doesn't matter there, is another and allows the floor.
 fn marked_cases(random: &mut Random, tally: &mut Tally, mode: u8, k: u8) {
     for i in 0..50 {
         let profile = random_profile(random, mode, k);
@@ -352,8 +379,9 @@ fn marked_cases(random: &mut Random, tally: &mut Tally, mode: u8, k: u8) {
         let mut receiving = Receiving::new(random, "marks", profile, &block, &no_faults());
         receiving.marks = if i < 10 { 0 } else { random.next() as u16 & random.next() as u16 & random.next() as u16 };
         (0..PACKETS).filter(|p| receiving.marks >> p & 1 == 1).for_each(|p| receiving.reasons[p] = Some(MARKED));
-        if mode < 2 {
-            receiving.bytes = written(&Profile { level: random_profile(random, mode, k).level, ..profile });
+        let level = random_profile(random, mode, k).level;
+        if mode < 2 && profile.floor + profile.floor <= level {
+            receiving.bytes = written(&Profile { level, ..profile });
         }
         receiving.data = Some(data);
         receiving.compare(tally);
@@ -377,69 +405,25 @@ fn other_levels(random: &mut Random, sent: f32) -> Vec<(Kind, f32, Option<u8>)> 
     levels.into_iter().filter(|level| level.1.is_normal() && level.1.to_bits() <= LARGEST).collect()
 }
 
+/// The floor is +0.0, so that the ranges around the lines are these.
 fn level_cases(random: &mut Random, tally: &mut Tally, mode: u8, k: u8) {
     for _ in 0..2 {
-        let sent = any_clean_grid(random, "another level", mode, k);
-        for (kind, level, reason) in other_levels(random, sent.profile.level) {
-            let mut receiving = Receiving { bytes: written(&Profile { level, ..sent.profile }), reasons: [reason; PACKETS], ..sent.clone() };
-            if reason.is_none() {
-                receiving.data = None;
-            }
-            receiving.compare(tally);
+        let profile = Profile { floor: 0.0, ..random_profile(random, mode, k) };
+        let sent = clean_grid(random, "another level", profile);
+        for (kind, level, reason) in other_levels(random, profile.level) {
+            sent.clone().under(&Profile { level, ..profile }, reason).compare(tally);
             tally.kind(kind);
         }
     }
 }
 
-/// Parts on the lines that decide, next to them and elsewhere, with the bits that each decides to; none where it is doubtful. Twice the level isn't
-/// a line in QPSK.
-pub fn line_parts(profile: &Profile) -> Vec<(Kind, f32, Option<Vec<u8>>)> {
-    let (level, line) = (profile.level, 2.0 * profile.level);
-    let signed = |is_inner: u8, is_negative: u8| if is_qam(profile) { vec![is_inner, is_negative] } else { vec![is_negative] };
-    let mut parts = Vec::new();
-    for s in [0, 1] {
-        let (inner, outer) = (Some(signed(1, s)), Some(signed(0, s)));
-        let mut some = vec![
-            (Kind::Zero, 0.0, None),
-            (Kind::NextToZero, f32::from_bits(1), inner.clone()),
-            (Kind::NextToZero, f32::from_bits(0x007F_FFFF), inner.clone()),
-            (Kind::AsSent, level, inner.clone()),
-            (Kind::Infinite, f32::INFINITY, outer.clone()),
-            (Kind::NotANumber, f32::from_bits(0x7FC0_0000), None),
-            (Kind::NotANumber, f32::from_bits(0x7F80_0001), None),
-        ];
-        if is_qam(profile) {
-            some.extend([
-                (Kind::InsideLine, before(line), inner),
-                (Kind::OnLine, line, None),
-                (Kind::OutsideLine, after(line), outer.clone()),
-                (Kind::AsSent, 3.0 * level, outer),
-            ]);
-        }
-        parts.extend(some.into_iter().map(|(kind, part, bits)| (kind, if s == 1 { -part } else { part }, bits)));
-    }
-    parts
-}
-
-/// One of these parts in each packet of a grid as sent: the packet is accepted where the part decides as the one that was sent, and else the bits
-/// that it decides to say why not.
-fn line_cases(random: &mut Random, tally: &mut Tally, mode: u8, k: u8) {
+/// Parts at the ends of the doubtful ranges in grids of any profile.
+fn edge_part_cases(random: &mut Random, tally: &mut Tally, mode: u8, k: u8) {
     for _ in 0..6 {
-        let mut receiving = any_clean_grid(random, "parts on the lines", mode, k);
-        let (profile, parts) = (receiving.profile, line_parts(&receiving.profile));
+        let mut receiving = any_clean_grid(random, "parts at the ends of the doubtful ranges", mode, k);
+        let parts = edge_parts(&receiving.profile);
         let from = random.below(parts.len());
-        for p in 0..PACKETS {
-            let (kind, part, bits) = &parts[(from + p) % parts.len()];
-            let b = profile.part_bits() * random.below(receiving.parts().len());
-            let sent = std::mem::replace(receiving.part(p, b), *part);
-            let (_, _, sent) = parts.iter().find(|(kind, part, _)| matches!(kind, Kind::AsSent) && *part == sent).expect("a part that is sent");
-            let wrong = |bits: &Vec<u8>| (0..bits.len()).filter(|&i| Some(bits[i]) != sent.as_ref().map(|sent| sent[i])).map(|i| b + i).collect();
-            let wrong: Option<Vec<usize>> = bits.as_ref().map(wrong);
-            receiving.reasons[p] = Some(wrong.map_or(DOUBTFUL, |wrong| reason_of(profile.rate(), &wrong)));
-            if is_qam(&profile) {
-                tally.kind(*kind);
-            }
-        }
+        receiving.put_parts(random, tally, &parts, from);
         receiving.compare(tally);
     }
 }
@@ -534,7 +518,7 @@ pub fn run(random: &mut Random, tally: &mut Tally) {
         altered_cases(random, tally, mode, k);
         near_cases(random, tally, mode, k);
         wrong_cases(random, tally, mode, k);
-        line_cases(random, tally, mode, k);
+        edge_part_cases(random, tally, mode, k);
         if mode >= 2 {
             level_cases(random, tally, mode, k);
         }

@@ -158,14 +158,14 @@ pub enum Call {
 }
 
 /// All numbers, as columns of the tally.
-const NUMBERS: [u32; 19] = [0, 1, 2, 3, 5, 6, 7, 8, 9, 10, 16, 17, 18, 22, 40, 41, 42, 43, 44];
+const NUMBERS: [u32; 20] = [0, 1, 2, 3, 5, 6, 7, 8, 9, 10, 16, 17, 18, 22, 40, 41, 42, 43, 44, 45];
 
 /// The numbers of a profile that is read, and of one passed as a value.
-const OF_BYTES: &[u32] = &[1, 2, 3, 5, 40, 41, 42, 43, 44];
-const OF_VALUE: &[u32] = &[40, 41, 42, 43, 44];
+const OF_BYTES: &[u32] = &[1, 2, 3, 5, 40, 41, 42, 43, 44, 45];
+const OF_VALUE: &[u32] = &[40, 41, 42, 43, 44, 45];
 
 /// Places that must come wherever a profile can be refused, with their numbers: the first, one between and the last. Of the seeds it is the first;
-/// the others are each mode's own.
+/// the others, and the floor's, are each mode's own.
 const PLACES: [(u32, usize); 7] = [(40, 3), (40, 15), (40, 31), (41, 38), (42, 45), (43, 49), (44, 53)];
 
 /// Each call's name and the numbers that can arise in it: the profile's, and its own.
@@ -184,7 +184,8 @@ const REASONS: [usize; 6] = [0, 11, 12, 13, 14, 15];
 const SHOWN: usize = 10;
 
 /// Kinds of cases that must come, as lines of the tally. In comparing, the lists are those that are lent where cells differ. The parts are those of
-/// 16QAM, where the lines are 2D and -2D; a level is the one that a grid is received with, where it was sent with another.
+/// 16QAM: the doubtful ranges are that around zero, which ends at the floor, and those around 2D and -2D, which have a lower and an upper end. A level
+/// is the one that a grid is received with, where it was sent with another. The floors are those of right profiles, but for the last.
 #[derive(Clone, Copy)]
 pub enum Kind {
     NoneDiffer,
@@ -195,10 +196,15 @@ pub enum Kind {
     ExactList,
     LongerList,
     Zero,
-    NextToZero,
-    InsideLine,
-    OnLine,
-    OutsideLine,
+    InsideFloor,
+    AtFloor,
+    BeyondFloor,
+    BeyondLow,
+    AtLow,
+    InsideLow,
+    InsideHigh,
+    AtHigh,
+    BeyondHigh,
     Infinite,
     NotANumber,
     AsSent,
@@ -207,8 +213,16 @@ pub enum Kind {
     InnerOnLine,
     OuterOnLine,
     DecidesOtherwise,
+    NoFloor,
+    LeastFloor,
+    SmallFloor,
+    AnyFloor,
+    BelowMostFloor,
+    MostFloor,
+    FloorAtSent,
+    TooLargeFloor,
 }
-const KINDS: [(&str, &str); 20] = [
+const KINDS: [(&str, &str); 33] = [
     ("compare", "none differ"),
     ("compare", "all differ"),
     ("compare", "no list"),
@@ -217,10 +231,15 @@ const KINDS: [(&str, &str); 20] = [
     ("compare", "exact list"),
     ("compare", "longer list"),
     ("part", "zero"),
-    ("part", "next to zero"),
-    ("part", "inside a line"),
-    ("part", "on a line"),
-    ("part", "outside a line"),
+    ("part", "inside the floor"),
+    ("part", "at the floor"),
+    ("part", "beyond the floor"),
+    ("part", "beyond a lower end"),
+    ("part", "at a lower end"),
+    ("part", "inside a lower end"),
+    ("part", "inside an upper end"),
+    ("part", "at an upper end"),
+    ("part", "beyond an upper end"),
     ("part", "infinite"),
     ("part", "NaN"),
     ("part", "as sent"),
@@ -229,6 +248,14 @@ const KINDS: [(&str, &str); 20] = [
     ("other level", "inner on a line"),
     ("other level", "outer on a line"),
     ("other level", "decides otherwise"),
+    ("floor", "+0.0"),
+    ("floor", "the least"),
+    ("floor", "small"),
+    ("floor", "any"),
+    ("floor", "below the largest"),
+    ("floor", "the largest"),
+    ("floor", "just what was sent"),
+    ("floor", "too large by a step"),
 ];
 
 #[derive(Default)]
@@ -239,7 +266,7 @@ pub struct Tally {
     in_mode: BTreeSet<(usize, u8, u32, usize, bool)>,
     /// By mode.
     reasons: [[u64; 16]; 5],
-    kinds: [u64; KINDS.len()],
+    kinds: BTreeMap<usize, u64>,
     cases: u64,
     differences: u64,
 }
@@ -274,7 +301,7 @@ impl Tally {
     }
 
     pub fn kind(&mut self, kind: Kind) {
-        self.kinds[kind as usize] += 1;
+        *self.kinds.entry(kind as usize).or_default() += 1;
     }
 
     pub fn difference(&mut self, text: &str) {
@@ -316,14 +343,15 @@ impl Tally {
         missing
     }
 
-    /// The same by mode: the call's own numbers, a bad seed as the last used and, in a value, as the first and the last unused one, and a level that
-    /// modes 0 and 1 can send, but modes 2 to 4 can't.
+    /// The same by mode: the call's own numbers, a bad seed as the last used and, in a value, as the first and the last unused one, a bad floor, and a
+    /// level that modes 0 and 1 can send, but modes 2 to 4 can't.
     fn missing_in(&self, c: usize, mode: u8) -> Vec<String> {
         let (name, of_profile, own) = CALLS[c];
         let after = 53 + 4 * SLOTS[mode as usize];
         let unused = if of_profile == OF_VALUE && mode > 0 { vec![after, 241] } else { vec![] };
         let came = |number: u32, place: usize| [false, true].iter().any(|&large| self.in_mode.contains(&(c, mode, number, place, large)));
-        let due = own.iter().map(|&number| (number, 0)).chain([(44, after - 4)]).chain(unused.into_iter().map(|place| (44, place)));
+        let of_profile = [(44, after - 4), (45, after + 3)].into_iter().chain(unused.into_iter().map(|place| (44, place)));
+        let due = own.iter().map(|&number| (number, 0)).chain(of_profile);
         let mut missing: Vec<String> = due.filter(|&(number, place)| !came(number, place))
             .map(|(number, place)| format!("number {number} at {place} never came from {name} in mode {mode}")).collect();
         let (number, place) = if mode < 2 { (0, 0) } else { (41, 38) };
@@ -333,11 +361,16 @@ impl Tally {
         missing
     }
 
+    /// The kinds with how often they came.
+    fn kinds(&self) -> impl Iterator<Item = (&'static str, &'static str, u64)> + '_ {
+        KINDS.iter().enumerate().map(|(i, &(group, kind))| (group, kind, self.kinds.get(&i).copied().unwrap_or(0)))
+    }
+
     fn missing_kinds(&self) -> Vec<String> {
         let reasons = (0..5).flat_map(|mode| REASONS.map(|reason| (mode, reason))).filter(|&(mode, reason)| self.reasons[mode][reason] == 0);
         let reasons = reasons.map(|(mode, reason)| format!("reason {reason} never came in mode {mode}"));
-        let kinds = KINDS.iter().zip(self.kinds).filter(|kind| kind.1 == 0);
-        reasons.chain(kinds.map(|((group, kind), _)| format!("{group}: {kind} never came"))).collect()
+        let kinds = self.kinds().filter(|kind| kind.2 == 0);
+        reasons.chain(kinds.map(|(group, kind, _)| format!("{group}: {kind} never came"))).collect()
     }
 
     /// Prints the counts and the last line. True when nothing differed, everything that can arise has arisen, and nothing else.
@@ -350,9 +383,8 @@ impl Tally {
             let reasons = REASONS.map(|reason| format!(" {reason}: {}", counts[reason]));
             println!("reasons in {mode} {}", reasons.join(","));
         }
-        for group in ["compare", "part", "other level"] {
-            let kinds = KINDS.iter().zip(self.kinds).filter(|kind| kind.0 .0 == group);
-            let kinds: Vec<String> = kinds.map(|((_, kind), count)| format!(" {kind}: {count}")).collect();
+        for group in ["compare", "part", "other level", "floor"] {
+            let kinds: Vec<String> = self.kinds().filter(|kind| kind.0 == group).map(|(_, kind, count)| format!(" {kind}: {count}")).collect();
             println!("{group:<13}{}", kinds.join(","));
         }
         for text in [self.missing(), self.missing_kinds(), self.strangers()].concat() {

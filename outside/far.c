@@ -44,8 +44,10 @@ struct list {
     u64 back;
 };
 
+static const u64 NONE[NUMBERS];
+
 static u32 carry(u64 call, const u64 numbers[NUMBERS], const struct list *lists, u64 count) {
-    struct request request = { call, count, { numbers[0], numbers[1], numbers[2] }, { 0 }, { 0 } };
+    struct request request = { call, count, { numbers[0], numbers[1], numbers[2], numbers[3] }, { 0 }, { 0 } };
     u64 number;
     int ok;
     if (!to) start();
@@ -65,13 +67,13 @@ static u32 carry(u64 call, const u64 numbers[NUMBERS], const struct list *lists,
 
 u32 flo_send(const u8 *profile, u64 p, const u8 *data, u64 d, float *firsts, u64 f, float *seconds, u64 s, u64 *place) {
     const struct list lists[] = { { profile, p, 0 }, { data, d, 0 }, { firsts, 4 * f, 1 }, { seconds, 4 * s, 1 }, { place, 8, 1 } };
-    return carry(SEND, (u64[]){ 0, 0, 0 }, lists, 5);
+    return carry(SEND, NONE, lists, 5);
 }
 
 u32 flo_send_symbol(const u8 *profile, u64 p, const u8 *data, u64 d, u64 symbol, float *firsts, u64 f, float *seconds, u64 s,
                     u64 *place) {
     const struct list lists[] = { { profile, p, 0 }, { data, d, 0 }, { firsts, 4 * f, 1 }, { seconds, 4 * s, 1 }, { place, 8, 1 } };
-    return carry(SEND_SYMBOL, (u64[]){ symbol, 0, 0 }, lists, 5);
+    return carry(SEND_SYMBOL, (u64[NUMBERS]){ symbol }, lists, 5);
 }
 
 u32 flo_receive(const u8 *profile, u64 p, u16 marks, const float *firsts, u64 f, const float *seconds, u64 s, u8 *data, u64 d,
@@ -79,12 +81,12 @@ u32 flo_receive(const u8 *profile, u64 p, u16 marks, const float *firsts, u64 f,
     const struct list lists[] = {
         { profile, p, 0 }, { firsts, 4 * f, 0 }, { seconds, 4 * s, 0 }, { data, d, 1 }, { lost, 2, 1 }, { reasons, 16, 1 }, { place, 8, 1 },
     };
-    return carry(RECEIVE, (u64[]){ marks, 0, 0 }, lists, 7);
+    return carry(RECEIVE, (u64[NUMBERS]){ marks }, lists, 7);
 }
 
 u32 flo_feed(const u8 *profile, u64 p, u8 *state, u64 n, const float *firsts, u64 f, const float *seconds, u64 s, u64 *place) {
     const struct list lists[] = { { profile, p, 0 }, { state, n, 1 }, { firsts, 4 * f, 0 }, { seconds, 4 * s, 0 }, { place, 8, 1 } };
-    return carry(FEED, (u64[]){ 0, 0, 0 }, lists, 5);
+    return carry(FEED, NONE, lists, 5);
 }
 
 /* The state comes back too, though it is only read: the tests look whether it is as it was. */
@@ -92,25 +94,29 @@ u32 flo_ask(const u8 *profile, u64 p, u16 marks, const u8 *state, u64 n, u8 *dat
     const struct list lists[] = {
         { profile, p, 0 }, { state, n, 1 }, { data, d, 1 }, { lost, 2, 1 }, { reasons, 16, 1 }, { place, 8, 1 },
     };
-    return carry(ASK, (u64[]){ marks, 0, 0 }, lists, 6);
+    return carry(ASK, (u64[NUMBERS]){ marks }, lists, 6);
 }
 
-u32 flo_read_profile(const u8 *profile, u64 p, u32 *masks, float *level, u8 *mode, u8 *k, u32 *seeds, u64 *place) {
+u32 flo_read_profile(const u8 *profile, u64 p, u32 *masks, float *level, u8 *mode, u8 *k, u32 *seeds, float *floor, u64 *place) {
     const struct list lists[] = {
-        { profile, p, 0 }, { masks, 32, 1 }, { level, 4, 1 }, { mode, 1, 1 }, { k, 1, 1 }, { seeds, 192, 1 }, { place, 8, 1 },
+        { profile, p, 0 }, { masks, 32, 1 }, { level, 4, 1 }, { mode, 1, 1 }, { k, 1, 1 }, { seeds, 192, 1 }, { floor, 4, 1 }, { place, 8, 1 },
     };
-    return carry(READ_PROFILE, (u64[]){ 0, 0, 0 }, lists, 7);
+    return carry(READ_PROFILE, NONE, lists, 8);
 }
 
-u32 flo_write_profile(const u32 *masks, float level, u8 mode, u8 k, const u32 *seeds, u8 *profile, u64 *count, u64 *place) {
-    const struct list lists[] = { { masks, 32, 0 }, { seeds, 192, 0 }, { profile, 245, 1 }, { count, 8, 1 }, { place, 8, 1 } };
-    union { float value; u32 bits; } both = { level };
-    return carry(WRITE_PROFILE, (u64[]){ both.bits, mode, k }, lists, 5);
+static u64 bits_of(float value) {
+    union { float value; u32 bits; } both = { value };
+    return both.bits;
+}
+
+u32 flo_write_profile(const u32 *masks, float level, u8 mode, u8 k, const u32 *seeds, float floor, u8 *profile, u64 *count, u64 *place) {
+    const struct list lists[] = { { masks, 32, 0 }, { seeds, 192, 0 }, { profile, 252, 1 }, { count, 8, 1 }, { place, 8, 1 } };
+    return carry(WRITE_PROFILE, (u64[NUMBERS]){ bits_of(level), mode, k, bits_of(floor) }, lists, 5);
 }
 
 u32 flo_parity(u8 k, u8 *block, u64 n) {
     const struct list lists[] = { { block, n, 1 } };
-    return carry(PARITY, (u64[]){ k, 0, 0 }, lists, 1);
+    return carry(PARITY, (u64[NUMBERS]){ k }, lists, 1);
 }
 
 u32 flo_compare(const u32 *firsts_a, u64 fa, const u32 *seconds_a, u64 sa, const u32 *firsts_b, u64 fb, const u32 *seconds_b, u64 sb,
@@ -119,5 +125,5 @@ u32 flo_compare(const u32 *firsts_a, u64 fa, const u32 *seconds_a, u64 sa, const
         { firsts_a, 4 * fa, 0 }, { seconds_a, 4 * sa, 0 }, { firsts_b, 4 * fb, 0 }, { seconds_b, 4 * sb, 0 }, { differences, 4 * d, 1 },
         { count, 8, 1 },
     };
-    return carry(COMPARE, (u64[]){ 0, 0, 0 }, lists, 6);
+    return carry(COMPARE, NONE, lists, 6);
 }

@@ -11,7 +11,7 @@ typedef unsigned int u32;
 typedef unsigned long u64;
 
 enum { SEND, SEND_SYMBOL, RECEIVE, FEED, ASK, READ_PROFILE, WRITE_PROFILE, PARITY, COMPARE };
-enum { LISTS = 7, NUMBERS = 3 };
+enum { LISTS = 8, NUMBERS = 4 };
 
 /* Answered in the place of the call's number when the library wrote outside the lists. */
 enum { WROTE_OUTSIDE = 1000 };

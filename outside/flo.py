@@ -1,4 +1,4 @@
-"""An independent sender and receiver, written from the text of document 01 and of document 02's Req 01, 02 and 04 to 06 alone, with source document
+"""An independent sender and receiver, written from the text of document 01 and of document 02's Req 01, 02 and 04 to 07 alone, with source document
 000's tables of puncturing and of 16QAM as they are printed (a state's bytes are flo.h's), and in another way than the crates: whole lists, integers as
 polynomials, no tables shared with them. The vectors under outside/ and crates/*/stdout that say so come from here.
 
@@ -192,8 +192,8 @@ def points(level, mode):
     return {bits: (sizes[first], sizes[second]) for bits, (first, second) in qam_points().items()}
 
 def send(profile, data):
-    """A grid as a list of symbols, each a list of 4096 (first, second)."""
-    masks, level, mode, k, seeds = profile
+    """A grid as a list of symbols, each a list of 4096 (first, second). A profile is (masks, level, mode, K, seeds, floor)."""
+    masks, level, mode, k, seeds, _ = profile
     bits = [b for p in block(data, k) for b in coded_packet(p, mode)]
     _, width, slots, symbols = MODES[mode]
     length, point_of = 500 * width, points(level, mode)
@@ -208,11 +208,12 @@ def send(profile, data):
     return grid
 
 def write_profile(profile):
-    masks, level, mode, k, seeds = profile
+    """The first fields where not all are given."""
+    states = lambda numbers: b"".join(struct.pack(">I", number) for number in numbers)
+    float_bytes, byte = lambda number: struct.pack(">f", number), lambda number: bytes([number])
     out = b""
-    for tag, value in enumerate([b"".join(struct.pack(">I", m) for m in masks), struct.pack(">f", level), bytes([mode]), bytes([k]),
-                                 b"".join(struct.pack(">I", s) for s in seeds)], 1):
-        out += bytes([tag]) + struct.pack(">H", len(value)) + value
+    for tag, (value_of, value) in enumerate(zip((states, float_bytes, byte, byte, states, float_bytes), profile), 1):
+        out += bytes([tag]) + struct.pack(">H", len(value_of(value))) + value_of(value)
     return out
 
 # ---- two grids side by side, Req 05
@@ -370,12 +371,27 @@ def cell_lines():
             for c in 48, 49, 2040, 2041, 2048, 2049, 2056, 4041, 4047, 4048, 4049:
                 yield "cell", mode, symbol, c, *carried.get((symbol, c), ["nothing"])
 
-def decision(part, level=None):
+def nearest(exact):
+    """The f32 nearest to a positive fraction; of two that are equally near the one with an even last digit. It is used only where what comes out is
+    finite."""
+    exponent = -126
+    while Fraction(2) ** (exponent + 1) <= exact:
+        exponent += 1
+    step = Fraction(2) ** (exponent - 23)
+    return float(round(exact / step) * step)
+
+def around_line(level, floor):
+    """The first and the last doubtful part around twice the level: the exact ends, rounded once."""
+    return tuple(nearest(2 * Fraction(level) + sign * Fraction(floor)) for sign in (-1, 1))
+
+def decision(part, level=None, floor=0.0):
     """Without a level that of QPSK. In 16QAM the nearest of what is sent, exactly and not rounded, in the order of flo.h's numbers; doubtful are the
-    three parts that lie in the middle of two."""
+    parts around the middle of two, as far as the floor says. Python compares floats exactly."""
+    size = abs(part)
     if level is None:
-        return 0 if part > 0 else 1 if part < 0 else 2
-    if part != part or part in (0, 2 * level, -2 * level):
+        return 2 if part != part or size <= floor else 0 if part > 0 else 1
+    first, last = around_line(level, floor)
+    if part != part or size <= floor or first <= size <= last:
         return 4
     part = Fraction(min(max(part, -4 * level), 4 * level))
     return min(range(4), key=lambda d: abs(part - (3, -3, 1, -1)[d] * Fraction(level)))
@@ -395,6 +411,7 @@ def decision_lines():
             point = points(level, 0)[s0, s1]
             yield "point", s0, s1, *map(pattern, point), *map(decision, point)
     yield from qam_decision_lines(level)
+    yield from floor_lines()
 
 def of_pattern(bits):
     return struct.unpack(">f", struct.pack(">I", bits))[0]
@@ -410,6 +427,44 @@ def qam_decision_lines(level):
     for bits, point in sorted(points(level, 2).items()):
         yield "point four", *bits, *map(pattern, point), *(decision(part, level) for part in point)
 
+# Levels, some with a floor of their own: 1.5, 1.0, the f32 after it, the least, the largest. At the second level's floor 2D - floor isn't what
+# D + (D - floor) gives with two roundings. At most floors of the third the ends aren't what the rounded 3D gives; at its largest 2D + floor isn't what
+# D + (D + floor) gives.
+FLOOR_LEVELS = (0x3FC00000, ()), (0x3F800000, (0x33A00000,)), (0x3F800001, (0x3E800000,)), (0x00800000, ()), (0x7EAAAAAA, ())
+
+def most_floor(level):
+    """The bits of the largest floor that a level, given by its bits, allows. It is found digit by digit."""
+    bits = 0
+    for digit in range(30, -1, -1):
+        bits += 2 ** digit if bits + 2 ** digit in Floors(level) else 0
+    return bits
+
+def floor_ends(mode, level, floor):
+    """The bits of the positive ends of the doubtful ranges, rising and each once: the floor and, in 16QAM, those around twice the level."""
+    around = around_line(of_pattern(level), of_pattern(floor)) if is_qam(mode) else ()
+    return [floor] + sorted({int(pattern(end), 16) for end in around})
+
+def floor_line(mode, level, floor, bits):
+    part = of_pattern(bits)
+    decided = decision(part, of_pattern(level) if is_qam(mode) else None, of_pattern(floor))
+    return "decide floor", mode, f"{level:08x} {floor:08x} {bits:08x}", decided, pattern(part)
+
+def floor_lines():
+    """At floors of +0.0, the smallest subnormal, the largest that the level allows with the one before it, and the level's own: each end of each range
+    and the parts next to it. Then, at the largest floor, what is sent, infinities and NaNs. All with both signs."""
+    signed = lambda bits: (bits, bits + 0x80000000)
+    for level, own in FLOOR_LEVELS:
+        most = most_floor(level)
+        for floor in (0, 1, most - 1, most, *own):
+            for mode in 0, 2:
+                for end in floor_ends(mode, level, floor):
+                    for bits in range(max(end - 1, 0), end + 2):
+                        yield from (floor_line(mode, level, floor, both) for both in signed(bits))
+        triple = int(pattern(rounded(3 * of_pattern(level))), 16)
+        for mode, sent in (0, (level,)), (2, (level, triple)):
+            for bits in (*sent, 0x7F800000, 0x7FC00000):
+                yield from (floor_line(mode, level, most, both) for both in signed(bits))
+
 def vectors():
     yield from packet_lines()
     yield from field_lines()
@@ -423,11 +478,22 @@ def vectors():
 
 # ---- crates/profiles: a table of good and damaged profiles
 
-def field(tag, mode):
-    """The number that names the field, how many numbers it has, the bytes of each, and which of them are right."""
+FIELDS = 6
+
+def field(tag, mode, level):
+    """The number that names the field, how many numbers it has, the bytes of each, and which of them are right. Mode and level (by its bits) are those
+    read before."""
     states = range(1, 2 ** 20)
     return {1: (40, 8, 4, states), 2: (41, 1, 4, range(0x0080_0000, 0x7F80_0000)), 3: (42, 1, 1, MODES), 4: (43, 1, 1, (8, 12, 14)),
-            5: (44, slots_of(mode), 4, states)}[tag]
+            5: (44, slots_of(mode), 4, states), 6: (45, 1, 4, Floors(level))}[tag]
+
+class Floors:
+    """The floors that a level allows, by their bits: +0.0 or positive and finite, and twice the floor, exactly, at most the level."""
+    def __init__(self, level):
+        self.level = level
+
+    def __contains__(self, floor):
+        return floor < 0x7F80_0000 and 2 * Fraction(of_pattern(floor)) <= Fraction(of_pattern(self.level))
 
 def is_sent(level, mode):
     """Whether the mode can send such a level, given by its bits: 16QAM's larger one must be finite too."""
@@ -435,9 +501,9 @@ def is_sent(level, mode):
 
 def read_profile(data):
     """What reading these bytes answers: the number, and where the first number outside its range begins."""
-    at, mode = 0, 0
-    for tag in range(1, 6):
-        named, count, size, right = field(tag, mode)
+    at, mode, level = 0, 0, 0
+    for tag in range(1, FIELDS + 1):
+        named, count, size, right = field(tag, mode, level)
         if at == len(data):
             return 5, 0
         if len(data) - at < 3:
@@ -469,42 +535,63 @@ def with_numbers(data, *numbers):
         data = data[:at] + number.to_bytes(size, "big") + data[at + size:]
     return data
 
+def floor_field(mode):
+    """Where the floor's field begins: where a profile without it ends."""
+    return len(write_profile(([1] * 8, 1.0, mode, 8, [1] * slots_of(mode))))
+
 def faulty_profiles(good):
     """Numbers outside their range, the first, one between and the last of each field: alone, two of them, and beside faults of headers. The second
-    level is outside it in 16QAM only."""
-    middle, last = 53 + (len(good) - 53) // 8 * 4, len(good) - 4
+    level is outside it in 16QAM only. Of the floors one is -0.0, of the other the double is just above the level."""
+    floor = floor_field(good[45])
+    middle, last = 53 + (floor - 53) // 8 * 4, floor - 4
     bad = [(3, 0), (15, 2 ** 20), (31, 2 ** 32 - 1), (38, 0x7F80_0000), (45, 5), (38, 0x7EAA_AAAB), (49, 9), (53, 0), (middle, 2 ** 20),
-           (last, 2 ** 31)]
+           (last, 2 ** 31), (floor + 3, 0x8000_0000), (floor + 3, 0x3F40_0001)]
     for i, one in enumerate(bad):
         wrong = with_numbers(good, one)
         yield wrong
         yield from (with_numbers(wrong, two) for two in bad[:i])
-        yield from (wrong[:-1], wrong[:50], wrong + b"\6", b"\0" + wrong[1:], wrong[:2] + b"\0" + wrong[3:], wrong[:50] + b"\6" + wrong[51:])
+        yield from (wrong[:-1], wrong[:50], wrong[:floor], wrong + b"\7", wrong + b"\7\0\0", b"\0" + wrong[1:], wrong[:2] + b"\0" + wrong[3:],
+                    wrong[:50] + b"\6" + wrong[51:], wrong[:floor] + b"\7" + wrong[floor + 1:], wrong[:floor + 2] + b"\5" + wrong[floor + 3:])
+
+def floored_profiles(good):
+    """Floors at and beyond the ends of what is right, with the profile's own level and with others. The last level is right in QPSK only, and there
+    the double of the first floor that is too large is infinite."""
+    floor = floor_field(good[45]) + 3
+    for bits in (0, 1, 2, 0x007F_FFFF, 0x0080_0000, 0x3F3F_FFFF, 0x3F40_0000, 0x3F40_0001, 0x3FC0_0000, 0x7EFF_FFFF, 0x7F00_0000, 0x7F7F_FFFF,
+                 0x7F80_0000, 0x7F80_0001, 0x7FC0_0000, 0x8000_0000, 0x8000_0001, 0xBE80_0000, 0xFF80_0000, 0xFFFF_FFFF):
+        yield with_numbers(good, (floor, bits))
+    for level in 0x0080_0000, 0x0080_0001, 0x0080_0003, 0x00FF_FFFF, 0x0100_0001, 0x3F80_0001, 0x7EAA_AAAA, 0x7F7F_FFFF:
+        most = most_floor(level)
+        yield from (with_numbers(good, (38, level), (floor, bits)) for bits in (0, most - 1, most, most + 1, most + 2, 0x8000_0000))
 
 def good_profile(mode, k):
-    return write_profile(([(37 * i + 1) % 2 ** 20 for i in range(8)], 1.5, mode, k, [2 ** 20 - 1 - 977 * t for t in range(slots_of(mode))]))
+    """Its floor is the smallest subnormal, which every level allows."""
+    seeds = [2 ** 20 - 1 - 977 * t for t in range(slots_of(mode))]
+    return write_profile(([(37 * i + 1) % 2 ** 20 for i in range(8)], 1.5, mode, k, seeds, of_pattern(1)))
 
 def profile_table():
     for mode, k in (0, 14), (1, 8), (0, 8), (1, 12), (2, 14), (3, 8), (4, 12):
         good = good_profile(mode, k)
         yield good
-        starts = [0, 35, 42, 46, 50, len(good)]
+        floor = floor_field(mode)
+        starts = [0, 35, 42, 46, 50, floor, len(good)]
         for at in starts:
             for cut in range(max(0, at - 1), min(len(good), at + 4)):
                 yield good[:cut]
-            for extra in (b"\0", b"\0\0", b"\6\0\0", b"\6\0\4\0\0\0\0"):
+            for extra in (b"\0", b"\0\0", b"\6\0\0", b"\6\0\4\0\0\0\0", b"\6\0\4\x80\0\0\0", b"\7\0\0", b"\7\0\4\0\0\0\0"):
                 yield good[:at] + extra
             for place in range(at, min(len(good), at + 4)):
-                for other in (0, 1, 6, 255):
+                for other in (0, 1, 6, 7, 255):
                     yield good[:place] + bytes([other]) + good[place + 1:]
         for level in (0, 0x8000_0000, 1, 0x007F_FFFF, 0x0080_0000, 0x7EAA_AAA9, 0x7EAA_AAAA, 0x7EAA_AAAB, 0x7EAA_AAAC, 0x7F00_0000, 0x7F7F_FFFF,
                       0x7F80_0000, 0x7FC0_0000, 0xBF80_0000, 0xFFFF_FFFF):
             yield with_numbers(good, (38, level))
-        for at, number in (3, 0), (3, 2 ** 20), (31, 2 ** 20 - 1), (31, 2 ** 32 - 1), (53, 0), (53, 2 ** 20), (len(good) - 4, 0), (len(good) - 4, 2 ** 20):
+        for at, number in (3, 0), (3, 2 ** 20), (31, 2 ** 20 - 1), (31, 2 ** 32 - 1), (53, 0), (53, 2 ** 20), (floor - 4, 0), (floor - 4, 2 ** 20):
             yield with_numbers(good, (at, number))
         for at, number in [(45, n) for n in (0, 1, 2, 3, 4, 5, 255)] + [(49, n) for n in (0, 7, 8, 12, 13, 14, 15, 16)]:
             yield with_numbers(good, (at, number))
         yield from faulty_profiles(good)
+        yield from floored_profiles(good)
         for other in MODES:
             if other != mode:
                 yield with_numbers(good_profile(other, k), (45, 5))
@@ -512,16 +599,20 @@ def profile_table():
 
 def seeds_answer(seeds, mode):
     """What writing answers to 48 seeds, where all else is right: those that the mode does not use are to be zero. The place of a seed is where the
-    profile ends if it is written with the seeds before it."""
+    profile ends if it is written with the seeds before it, and no floor."""
     used = slots_of(mode)
     wrong = [t for t, seed in enumerate(seeds) if (not 0 < seed < 2 ** 20 if t < used else seed != 0)]
     return (44, len(write_profile(([1] * 8, 1.0, mode, 8, seeds[:wrong[0]])))) if wrong else (0, 0)
 
+def seeds_in(data):
+    """The 48 seeds of a right profile's bytes, but for the last, which is 1."""
+    used = slots_of(data[45])
+    return ([int.from_bytes(data[53 + 4 * t:57 + 4 * t], "big") for t in range(used)] + [0] * (48 - used))[:47] + [1]
+
 def profiles():
     for data in profile_table():
         number, place = read_profile(data)
-        seeds = [int.from_bytes(data[at:at + 4], "big") for at in range(53, 241, 4)]
-        yield (number, place, 0, 0, len(data), "same", *seeds_answer(seeds + [1], data[45])) if number == 0 else (number, place, "")
+        yield (number, place, 0, 0, len(data), "same", *seeds_answer(seeds_in(data), data[45])) if number == 0 else (number, place, "")
 
 def profiles_stdin():
     for data in profile_table():
@@ -543,7 +634,7 @@ def state(cells, level=None):
     return [len(cells) // 256, len(cells) % 256] + decided + [0] * (28672 - len(cells))
 
 def state_cells(mode):
-    profile = [37 * i + 1 for i in range(8)], 1.5, mode, 8, [977 * t + 1 for t in range(slots_of(mode))]
+    profile = [37 * i + 1 for i in range(8)], 1.5, mode, 8, [977 * t + 1 for t in range(slots_of(mode))], 0.0
     return sum(send(profile, formula(976)), [])
 
 def state_lines():

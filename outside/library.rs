@@ -29,10 +29,10 @@ extern "C" {
     ) -> u32;
     fn flo_read_profile(
         profile: *const u8, profile_length: usize,
-        masks: *mut u32, level: *mut f32, mode: *mut u8, k: *mut u8, seeds: *mut u32, place: *mut usize,
+        masks: *mut u32, level: *mut f32, mode: *mut u8, k: *mut u8, seeds: *mut u32, floor: *mut f32, place: *mut usize,
     ) -> u32;
     fn flo_write_profile(
-        masks: *const u32, level: f32, mode: u8, k: u8, seeds: *const u32, profile: *mut u8, count: *mut usize, place: *mut usize,
+        masks: *const u32, level: f32, mode: u8, k: u8, seeds: *const u32, floor: f32, profile: *mut u8, count: *mut usize, place: *mut usize,
     ) -> u32;
     fn flo_parity(k: u8, block: *mut u8, block_length: usize) -> u32;
     fn flo_compare(
@@ -126,26 +126,26 @@ pub fn ask(profile: &[u8], marks: u16, state: &mut [u8], data: &mut [u8]) -> Rec
 
 pub fn read_profile(bytes: &[u8]) -> (Answer, Profile) {
     let (mut masks, mut seeds) = ([PATTERN_4; 8 + GUARD], [PATTERN_4; 48 + GUARD]);
-    let (mut level, mut mode, mut k) = (f32::from_bits(PATTERN_4), PATTERN, PATTERN);
+    let (mut level, mut mode, mut k, mut floor) = (f32::from_bits(PATTERN_4), PATTERN, PATTERN, f32::from_bits(PATTERN_4));
     // SAFETY: the bytes come with their length, and all results are live and large enough.
     let answer = placed(|place| unsafe {
         flo_read_profile(
-            bytes.as_ptr(), bytes.len(), masks.as_mut_ptr(), &mut level, &mut mode, &mut k, seeds.as_mut_ptr(), place,
+            bytes.as_ptr(), bytes.len(), masks.as_mut_ptr(), &mut level, &mut mode, &mut k, seeds.as_mut_ptr(), &mut floor, place,
         )
     });
     guard(&masks[8..], PATTERN_4, "masks");
     guard(&seeds[48..], PATTERN_4, "seeds");
     let (masks, seeds) = (masks[..8].try_into().unwrap(), seeds[..48].try_into().unwrap());
-    (answer, Profile { masks, level, mode, k, seeds })
+    (answer, Profile { masks, level, mode, k, seeds, floor })
 }
 
 pub fn write_profile(value: &Profile) -> (Answer, [u8; PROFILE], usize) {
     let mut bytes = [PATTERN; PROFILE + GUARD];
     let mut count = usize::MAX;
-    // SAFETY: 8 masks, 48 seeds and room for 245 bytes, count and place, all live.
+    // SAFETY: 8 masks, 48 seeds and room for 252 bytes, count and place, all live.
     let answer = placed(|place| unsafe {
         flo_write_profile(
-            value.masks.as_ptr(), value.level, value.mode, value.k, value.seeds.as_ptr(), bytes.as_mut_ptr(), &mut count, place,
+            value.masks.as_ptr(), value.level, value.mode, value.k, value.seeds.as_ptr(), value.floor, bytes.as_mut_ptr(), &mut count, place,
         )
     });
     guard(&bytes[PROFILE..], PATTERN, "profile");

@@ -1,4 +1,4 @@
-//! An independent sender and receiver, written from the text of document 01 and of document 02's Req 01, 02 and 04 to 06 alone, with source
+//! An independent sender and receiver, written from the text of document 01 and of document 02's Req 01, 02 and 04 to 07 alone, with source
 //! document 000's tables for puncturing and 16QAM (a state's bytes and what a list of differences holds are flo.h's) and in the ordinary way:
 //! log tables, precomputed addresses and places, one bit per byte.
 //! The outside tests compare the C library with it, and the benchmark times the two side by side.
@@ -26,7 +26,7 @@ pub const PACKETS: usize = 16;
 pub const BLOCK: usize = PACKET * PACKETS;
 pub const POINTS: usize = 500; // points of a slot
 pub const CODED: usize = 3000; // most coded bits of a packet
-pub const PROFILE: usize = 245; // bytes of the largest profile
+pub const PROFILE: usize = 252; // bytes of the largest profile
 pub const ENTERING: usize = 994; // bits of a packet that enter the turbo code
 
 pub const DONE: u32 = 0;
@@ -48,6 +48,7 @@ pub const BAD_LEVEL: u32 = 41;
 pub const BAD_MODE: u32 = 42;
 pub const BAD_K: u32 = 43;
 pub const BAD_SEED: u32 = 44;
+pub const BAD_FLOOR: u32 = 45;
 
 pub const ACCEPTED: u8 = 0;
 pub const MARKED: u8 = 11;
@@ -218,22 +219,22 @@ impl From<Answer> for Received {
 /// Decides points of slot number k, beginning with point `first`, as many as the bits have; false when a part is doubtful. No branches, since
 /// signs and sizes can't be predicted.
 fn decide(profile: &Profile, k: usize, first: usize, firsts: &[f32], seconds: &[f32], bits: &mut [u8]) -> bool {
-    let mut certain = true;
+    let (mut certain, floor) = (true, profile.floor);
     if profile.part_bits() == 1 {
         for (i, pair) in bits.chunks_exact_mut(2).enumerate() {
             let cell = point_cell(k, first + i);
             let (a, b) = (firsts[cell], seconds[cell]);
-            certain &= ((a > 0.0) | (a < 0.0)) & ((b > 0.0) | (b < 0.0));
+            certain &= ((a > floor) | (a < -floor)) & ((b > floor) | (b < -floor));
             (pair[0], pair[1]) = ((a < 0.0) as u8, (b < 0.0) as u8);
         }
     } else {
-        let line = 2.0 * profile.level;
+        let (low, high) = profile.around_line();
         for (i, s) in bits.chunks_exact_mut(4).enumerate() {
             let cell = point_cell(k, first + i);
             for (part, s) in [firsts[cell], seconds[cell]].into_iter().zip(s.chunks_exact_mut(2)) {
                 let size = part.abs();
-                certain &= (size > 0.0) & ((size < line) | (size > line));
-                (s[0], s[1]) = ((size < line) as u8, (part < 0.0) as u8);
+                certain &= (size > floor) & ((size < low) | (size > high));
+                (s[0], s[1]) = ((size < low) as u8, (part < 0.0) as u8);
             }
         }
     }

@@ -1,4 +1,4 @@
-//! Part of plain.rs: a grid whose cells come in pieces, by document 02's Req 02 and 06 and by what flo.h says of the state's bytes.
+//! Part of plain.rs: a grid whose cells come in pieces, by document 02's Req 02, 06 and 07 and by what flo.h says of the state's bytes.
 //!
 //! Nothing clever: the cells that have come are kept as they came, and when the last is there they are received as a whole grid. A state
 //! from elsewhere is good exactly when some cells leave it; its own bytes tell which ones these would have to be.
@@ -19,31 +19,31 @@ pub struct Came {
 /// A part that decides to each of the numbers that a decision can have in the profile's mode.
 fn parts(profile: &Profile) -> Vec<f32> {
     let level = profile.level;
-    if profile.part_bits() == 1 { vec![1.0, -1.0, 0.0] } else { vec![3.0 * level, -3.0 * level, level, -level, 0.0] }
+    if profile.part_bits() == 1 { vec![level, -level, 0.0] } else { vec![3.0 * level, -3.0 * level, level, -level, 0.0] }
 }
 
-fn decision(profile: &Profile, part: f32) -> u8 {
-    if profile.part_bits() == 1 { qpsk_decision(part) } else { qam_decision(part, 2.0 * profile.level) }
+pub fn decision(profile: &Profile, part: f32) -> u8 {
+    if profile.part_bits() == 1 { qpsk_decision(part, profile.floor) } else { qam_decision(part, profile.floor, profile.around_line()) }
 }
 
-fn qpsk_decision(part: f32) -> u8 {
-    if part > 0.0 {
+fn qpsk_decision(part: f32, floor: f32) -> u8 {
+    if part > floor {
         0
-    } else if part < 0.0 {
+    } else if part < -floor {
         1
     } else {
         2
     }
 }
 
-fn qam_decision(part: f32, line: f32) -> u8 {
-    if part > line {
+fn qam_decision(part: f32, floor: f32, (low, high): (f32, f32)) -> u8 {
+    if part > high {
         0
-    } else if part < -line {
+    } else if part < -high {
         1
-    } else if part > 0.0 && part < line {
+    } else if part > floor && part < low {
         2
-    } else if part < 0.0 && part > -line {
+    } else if part < -floor && part > -low {
         3
     } else {
         4

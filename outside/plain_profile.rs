@@ -1,11 +1,11 @@
-//! Part of plain.rs: the profile as bytes and as a value, by the text of document 01 and of document 02's Req 04 and 06 alone.
+//! Part of plain.rs: the profile as bytes and as a value, by the text of document 01 and of document 02's Req 04, 06 and 07 alone.
 //!
 //! A place is found in two ways that share nothing: reading knows how many bytes it has walked over, and a value's numbers are counted off.
 
-use super::{Rate, BAD_K, BAD_LEVEL, BAD_MASK, BAD_MODE, BAD_SEED, DONE, ENDS_INSIDE, FIELD_DUE, OTHER_TAG, WRONG_LENGTH};
+use super::{Rate, BAD_FLOOR, BAD_K, BAD_LEVEL, BAD_MASK, BAD_MODE, BAD_SEED, DONE, ENDS_INSIDE, FIELD_DUE, OTHER_TAG, WRONG_LENGTH};
 use super::{PACKET, PACKETS, POINTS, PROFILE};
 
-/// What a call says: its number, and at 40 to 44 the byte of the profile where the faulty number begins. Every other number has place 0.
+/// What a call says: its number, and at 40 to 45 the byte of the profile where the faulty number begins. Every other number has place 0.
 #[derive(Clone, Copy, PartialEq, Debug)]
 pub struct Answer {
     pub number: u32,
@@ -26,10 +26,11 @@ pub struct Profile {
     pub mode: u8,
     pub k: u8,
     pub seeds: [u32; 48],
+    pub floor: f32,
 }
 
 impl Profile {
-    pub const ZERO: Profile = Profile { masks: [0; 8], level: 0.0, mode: 0, k: 0, seeds: [0; 48] };
+    pub const ZERO: Profile = Profile { masks: [0; 8], level: 0.0, mode: 0, k: 0, seeds: [0; 48], floor: 0.0 };
 
     pub fn rate(&self) -> Rate {
         match self.mode {
@@ -65,8 +66,14 @@ impl Profile {
         PACKET * self.k as usize
     }
 
-    /// The first number outside its range, in the order of the tags, and where it would begin if the profile were written out with all its
-    /// 48 seeds; 0 when all are right. The mode's turn is also that of a level which the mode can't send.
+    /// The ends of the doubtful range around twice the level, in 16QAM: doubling is exact, so each is rounded once.
+    pub fn around_line(&self) -> (f32, f32) {
+        let line = 2.0 * self.level;
+        (line - self.floor, line + self.floor)
+    }
+
+    /// The first number outside its range, in the order of the tags, and where it would begin if the profile were written out, an unused seed as if
+    /// all 48 were; 0 when all are right. The mode's turn is also that of a level which the mode can't send.
     pub fn fault(&self) -> Answer {
         let seed = |(t, &seed): (usize, &u32)| (BAD_SEED, 4, if t < self.slots() { is_state(seed) } else { seed == 0 });
         let between = [(BAD_LEVEL, 4, is_level(self.level)), (BAD_MODE, 1, is_mode(self.mode)), (BAD_K, 1, is_k(self.k))];
@@ -86,7 +93,8 @@ impl Profile {
             }
             place += size;
         }
-        DONE.into()
+        let of_floor = place - 4 * (self.seeds.len() - self.slots()) + 3; // unused seeds aren't written; then come tag and length
+        if is_floor(self.floor, self.level) { DONE.into() } else { Answer { number: BAD_FLOOR, place: of_floor } }
     }
 }
 
@@ -110,6 +118,11 @@ fn is_sent(level: f32, mode: u8) -> bool {
 
 fn is_k(k: u8) -> bool {
     matches!(k, 8 | 12 | 14)
+}
+
+/// +0.0 or positive, and its double at most the level, which also says that it is finite.
+fn is_floor(floor: f32, level: f32) -> bool {
+    (floor > 0.0 || floor.to_bits() == 0) && floor + floor <= level
 }
 
 /// What reading says, and the profile, all zero on a refusal.
@@ -137,6 +150,9 @@ pub fn read_fields(bytes: &[u8]) -> Result<Profile, Answer> {
     demand(is_k(profile.k), BAD_K, place)?;
     let slots = profile.slots();
     read_states(field(5, 4 * slots)?, &mut profile.seeds[..slots], BAD_SEED)?;
+    let (place, floor) = field(6, 4)?;
+    profile.floor = f32::from_bits(u32::from_be_bytes(floor.try_into().unwrap()));
+    demand(is_floor(profile.floor, profile.level), BAD_FLOOR, place)?;
     match rest.len() {
         0 => Ok(profile),
         1 | 2 => Err(ENDS_INSIDE.into()),
@@ -181,8 +197,9 @@ pub fn write_profile(value: &Profile) -> (Answer, [u8; PROFILE], usize) {
         return (answer, bytes, 0);
     }
     let states = |list: &[u32]| list.iter().flat_map(|x| x.to_be_bytes()).collect::<Vec<u8>>();
-    let level = value.level.to_bits().to_be_bytes().to_vec();
-    let fields = [states(&value.masks), level, vec![value.mode], vec![value.k], states(&value.seeds[..value.slots()])];
+    let seeds = &value.seeds[..value.slots()];
+    let [level, floor] = [value.level, value.floor].map(|x| x.to_bits().to_be_bytes().to_vec());
+    let fields = [states(&value.masks), level, vec![value.mode], vec![value.k], states(seeds), floor];
     let mut count = 0;
     for (tag, field) in (1..).zip(fields) {
         bytes[count] = tag;

@@ -6,8 +6,8 @@ u32 flo_send_symbol(const u8 *, u64, const u8 *, u64, u64, float *, u64, float *
 u32 flo_receive(const u8 *, u64, u16, const float *, u64, const float *, u64, u8 *, u64, u16 *, u8 *, u64 *);
 u32 flo_feed(const u8 *, u64, u8 *, u64, const float *, u64, const float *, u64, u64 *);
 u32 flo_ask(const u8 *, u64, u16, const u8 *, u64, u8 *, u64, u16 *, u8 *, u64 *);
-u32 flo_read_profile(const u8 *, u64, u32 *, float *, u8 *, u8 *, u32 *, u64 *);
-u32 flo_write_profile(const u32 *, float, u8, u8, const u32 *, u8 *, u64 *, u64 *);
+u32 flo_read_profile(const u8 *, u64, u32 *, float *, u8 *, u8 *, u32 *, float *, u64 *);
+u32 flo_write_profile(const u32 *, float, u8, u8, const u32 *, float, u8 *, u64 *, u64 *);
 u32 flo_parity(u8, u8 *, u64);
 u32 flo_compare(const u32 *, u64, const u32 *, u64, const u32 *, u64, const u32 *, u64, u32 *, u64, u64 *);
 
@@ -78,9 +78,9 @@ static u32 run(const struct request *request) {
     case ASK:
         return flo_ask(l[0], n[0], (u16)a[0], l[1], n[1], l[2], n[2], (u16 *)l[3], l[4], place);
     case READ_PROFILE:
-        return flo_read_profile(l[0], n[0], (u32 *)l[1], (float *)l[2], l[3], l[4], (u32 *)l[5], place);
+        return flo_read_profile(l[0], n[0], (u32 *)l[1], (float *)l[2], l[3], l[4], (u32 *)l[5], (float *)l[6], place);
     case WRITE_PROFILE:
-        return flo_write_profile((u32 *)l[0], float_of(a[0]), (u8)a[1], (u8)a[2], (u32 *)l[1], l[2], (u64 *)l[3], place);
+        return flo_write_profile((u32 *)l[0], float_of(a[0]), (u8)a[1], (u8)a[2], (u32 *)l[1], float_of(a[3]), l[2], (u64 *)l[3], place);
     case COMPARE:
         return flo_compare((u32 *)l[0], n[0] / 4, (u32 *)l[1], n[1] / 4, (u32 *)l[2], n[2] / 4, (u32 *)l[3], n[3] / 4, (u32 *)l[4], n[4] / 4, place);
     default:

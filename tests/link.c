@@ -49,7 +49,7 @@ struct block {
 
 /* The number of a call that was given b->place; WRONG_PLACE where it didn't write there what is due. */
 static uint32_t placed(struct block *b, uint32_t number) {
-    const size_t place = b->place, due = number >= FLO_BAD_MASK && number <= FLO_BAD_SEED ? b->due : 0;
+    const size_t place = b->place, due = number >= FLO_BAD_MASK && number <= FLO_BAD_FLOOR ? b->due : 0;
     memset(&b->place, PAINT, sizeof b->place);
     return place == due ? number : (uint32_t)WRONG_PLACE;
 }
@@ -59,7 +59,21 @@ struct value {
     float level;
     uint8_t mode, k;
     uint32_t seeds[FLO_SEEDS];
+    float floor;
 };
+
+/* A float and its bits. */
+static float float_of(uint32_t bits) {
+    float value;
+    memcpy(&value, &bits, sizeof value);
+    return value;
+}
+
+static uint32_t bits_of(float value) {
+    uint32_t bits;
+    memcpy(&bits, &value, sizeof bits);
+    return bits;
+}
 
 static struct value good_value(const struct block *b) {
     struct value v;
@@ -69,11 +83,12 @@ static struct value good_value(const struct block *b) {
     v.level = 0.5f;
     v.mode = b->mode;
     v.k = b->k;
+    v.floor = 0.0f;
     return v;
 }
 
 static uint32_t write_value(struct block *b, const struct value *v) {
-    return placed(b, flo_write_profile(v->masks, v->level, v->mode, v->k, v->seeds, b->profile, &b->profile_length, &b->place));
+    return placed(b, flo_write_profile(v->masks, v->level, v->mode, v->k, v->seeds, v->floor, b->profile, &b->profile_length, &b->place));
 }
 
 static uint32_t write_profile(struct block *b) {
@@ -209,7 +224,7 @@ static void test_round_trip(int mode, int k) {
     size_t symbol;
     int same = 1;
     begin(&one, mode, k, 0);
-    test("a profile's length", one.profile_length == 53 + 4 * (size_t)figures[mode].slots);
+    test("a profile's length", one.profile_length == 60 + 4 * (size_t)figures[mode].slots);
     test("a block is sent", send_block(&one) == FLO_DONE);
     for (symbol = 0; symbol < (size_t)FLO_SYMBOLS(mode); symbol++) {
         same = same && send_symbol(&one, symbol, firsts, seconds) == FLO_DONE;
@@ -476,11 +491,12 @@ static void test_spoilt(int mode, int k) {
 static int is_refused(struct block *b, uint32_t number) {
     uint32_t masks[FLO_MASKS], seeds[FLO_SEEDS], sum = 0;
     uint8_t mode = PAINT, k = PAINT;
-    float level = 1.0f;
+    float level = 1.0f, floor = 1.0f;
     unsigned i;
     memset(masks, PAINT, sizeof masks);
     memset(seeds, PAINT, sizeof seeds);
-    if (placed(b, flo_read_profile(b->profile, b->profile_length, masks, &level, &mode, &k, seeds, &b->place)) != number) return 0;
+    if (placed(b, flo_read_profile(b->profile, b->profile_length, masks, &level, &mode, &k, seeds, &floor, &b->place)) != number) return 0;
+    sum = bits_of(level) | bits_of(floor);
     for (i = 0; i < FLO_MASKS; i++) sum |= masks[i];
     for (i = 0; i < FLO_SEEDS; i++) sum |= seeds[i];
     b->lost = 0xA5A5;
@@ -489,7 +505,7 @@ static int is_refused(struct block *b, uint32_t number) {
     b->lost = 0xA5A5;
     memset(b->reasons, PAINT, sizeof b->reasons);
     if (ask(b, 0xFFFF) != number || !no_answer(b)) return 0;
-    return sum == 0 && mode == 0 && k == 0 && level == 0.0f && send_block(b) == number && send_symbol(b, 0, b->firsts, b->seconds) == number &&
+    return sum == 0 && mode == 0 && k == 0 && send_block(b) == number && send_symbol(b, 0, b->firsts, b->seconds) == number &&
            feed(b, 0, 1) == number &&
            is_painted(b->firsts, sizeof b->firsts) && is_painted(b->seconds, sizeof b->seconds) && is_painted(b->received, sizeof b->received) &&
            is_painted(b->state, sizeof b->state);
@@ -511,6 +527,22 @@ static void test_refusals(int mode, int k) {
     begin(b, mode, k, 3);
     b->profile_length = 35;
     test("a profile that ends between fields", is_refused(b, FLO_FIELD_MISSING));
+    begin(b, mode, k, 3);
+    b->profile_length -= 7;
+    test("a profile without a floor", is_refused(b, FLO_FIELD_MISSING));
+    begin(b, mode, k, 3);
+    b->profile[b->profile_length - 5] = 5;
+    test("a wrong length of the floor", is_refused(b, FLO_WRONG_LENGTH));
+    begin(b, mode, k, 3);
+    if (b->profile_length + 7 <= sizeof b->profile) { /* the bytes after a profile that isn't the longest are zero */
+        b->profile_length += 2;
+        test("two bytes after the floor", is_refused(b, FLO_CUT_IN_FIELD));
+        b->profile_length += 1;
+        test("three bytes after the floor", is_refused(b, FLO_WRONG_TAG));
+        memcpy(b->profile + b->profile_length - 3, "\7\0\4", 3);
+        b->profile_length += 4;
+        test("a field after the floor", is_refused(b, FLO_WRONG_TAG));
+    }
 
     begin(b, mode, k, 3);
     b->data_length -= 1;
@@ -532,8 +564,9 @@ static void test_refusals(int mode, int k) {
 /* ---- numbers outside their range: which one is it, and where */
 
 /* In the order of their tests: the number that names it, the byte where it begins, and what stands there. Unused seeds begin at 181, 149, 117 and 101
-   in modes 1 to 4. The level whose triple is just not finite is a fault in modes 2 to 4 only. */
-enum { TOO_LARGE = 0x7EAAAAAB };
+   in modes 1 to 4; the floor's place is each mode's own. The level whose triple is just not finite is a fault in modes 2 to 4 only. */
+enum { TOO_LARGE = 0x7EAAAAAB, OF_FLOOR = 0 };
+static const size_t floor_places[MODES] = {248, 184, 152, 120, 104};
 static const struct fault {
     uint32_t number;
     size_t place;
@@ -546,6 +579,7 @@ static const struct fault {
     {FLO_BAD_SEED, 53, 0}, {FLO_BAD_SEED, 97, 0}, {FLO_BAD_SEED, 101, 1048576}, {FLO_BAD_SEED, 113, 1048576}, {FLO_BAD_SEED, 117, 0xFFFFFFFF},
     {FLO_BAD_SEED, 145, 1048577}, {FLO_BAD_SEED, 149, 0x80000000}, {FLO_BAD_SEED, 177, 1048576}, {FLO_BAD_SEED, 181, 1048576},
     {FLO_BAD_SEED, 213, 0x80000001}, {FLO_BAD_SEED, 241, 0xFFFFFFFF},
+    {FLO_BAD_FLOOR, OF_FLOOR, 0x80000000}, {FLO_BAD_FLOOR, OF_FLOOR, 0x3E800001}, {FLO_BAD_FLOOR, OF_FLOOR, 0x7FC00000}, /* -0.0, above 0.25, NaN */
 };
 enum { FAULTS = sizeof faults / sizeof faults[0] };
 
@@ -553,18 +587,28 @@ static int is_fault(int mode, const struct fault *f) {
     return mode >= 2 || f->bad != TOO_LARGE;
 }
 
+static size_t place_in(int mode, const struct fault *f) {
+    return f->place == OF_FLOOR ? floor_places[mode] : f->place;
+}
+
+/* Whether the bytes have this number: unused seeds aren't written. */
+static int is_written(int mode, const struct fault *f) {
+    return f->number != FLO_BAD_SEED || f->place < 53 + 4 * (size_t)figures[mode].slots;
+}
+
 static void spoil_value(struct value *v, const struct fault *f) {
-    if (f->place < 35) v->masks[(f->place - 3) / 4] = f->bad;
-    else if (f->place == 38) memcpy(&v->level, &f->bad, sizeof v->level);
+    if (f->place == OF_FLOOR) v->floor = float_of(f->bad);
+    else if (f->place < 35) v->masks[(f->place - 3) / 4] = f->bad;
+    else if (f->place == 38) v->level = float_of(f->bad);
     else if (f->place == 45) v->mode = (uint8_t)f->bad;
     else if (f->place == 49) v->k = (uint8_t)f->bad;
     else v->seeds[(f->place - 53) / 4] = f->bad;
 }
 
 static void spoil_bytes(struct block *b, const struct fault *f) {
-    const size_t size = f->place == 45 || f->place == 49 ? 1 : 4;
+    const size_t place = place_in(b->mode, f), size = place == 45 || place == 49 ? 1 : 4;
     size_t i;
-    for (i = 0; i < size; i++) b->profile[f->place + i] = (uint8_t)(f->bad >> 8 * (size - 1 - i));
+    for (i = 0; i < size; i++) b->profile[place + i] = (uint8_t)(f->bad >> 8 * (size - 1 - i));
 }
 
 /* The value is refused by this number at this place, and nothing is written. */
@@ -586,12 +630,12 @@ static void test_pair(struct block *b, int mode, int k, const struct fault *firs
     v = good_value(b);
     spoil_value(&v, second);
     spoil_value(&v, first);
-    test("a bad number of a value", is_unwritten(b, &v, first->number, first->place));
+    test("a bad number of a value", is_unwritten(b, &v, first->number, place_in(mode, first)));
     begin(b, mode, k, 9);
-    if (first->place >= b->profile_length) return;
-    if (second->place < b->profile_length) spoil_bytes(b, second);
+    if (!is_written(mode, first)) return;
+    if (is_written(mode, second)) spoil_bytes(b, second);
     spoil_bytes(b, first);
-    b->due = first->place;
+    b->due = place_in(mode, first);
     test("a bad number of a profile", is_refused(b, first->number));
 }
 
@@ -602,12 +646,15 @@ static void test_faults(int mode, int k) {
         for (j = i; j < FAULTS; j++)
             if (is_fault(mode, &faults[i])) test_pair(b, mode, k, &faults[i], &faults[j]);
     for (i = 0; i < FAULTS; i++) {
+        const size_t place = place_in(mode, &faults[i]), of_floor = floor_places[mode];
         begin(b, mode, k, 9);
-        if (faults[i].place >= b->profile_length || !is_fault(mode, &faults[i])) continue;
+        if (!is_written(mode, &faults[i]) || !is_fault(mode, &faults[i])) continue;
         spoil_bytes(b, &faults[i]);
-        b->due = faults[i].place;
+        b->due = place;
+        b->profile[of_floor - 3] = 7;
+        test("a bad number and the last field's tag", is_refused(b, place < of_floor ? faults[i].number : (uint32_t)FLO_WRONG_TAG));
         b->profile[50] = 6;
-        test("a bad number and the last field's tag", is_refused(b, faults[i].place < 50 ? faults[i].number : (uint32_t)FLO_WRONG_TAG));
+        test("a bad number and the seeds' tag", is_refused(b, place < 50 ? faults[i].number : (uint32_t)FLO_WRONG_TAG));
         b->profile[2] = 33;
         test("a bad number and the first field's length", is_refused(b, FLO_WRONG_LENGTH));
     }
@@ -633,14 +680,14 @@ static void test_levels(int mode, int k) {
         size_t inner = 0, outer = 0, silent = 0;
         begin(b, mode, k, 13);
         v = good_value(b);
-        memcpy(&v.level, &levels[i], sizeof v.level);
+        v.level = float_of(levels[i]);
         if (mode >= 2 && triples[i] == 0) {
             test("a level whose triple isn't finite", is_unwritten(b, &v, FLO_BAD_LEVEL, 38));
             continue;
         }
         test("a level that can be sent", write_value(b, &v) == FLO_DONE && send_block(b) == FLO_DONE);
         for (c = 0; c < 2 * b->cells; c++) {
-            memcpy(&bits, c < b->cells ? &b->firsts[c] : &b->seconds[c - b->cells], sizeof bits);
+            bits = bits_of(c < b->cells ? b->firsts[c] : b->seconds[c - b->cells]);
             inner += (bits & 0x7FFFFFFF) == levels[i];
             outer += mode >= 2 && (bits & 0x7FFFFFFF) == triples[i];
             silent += bits == 0;
@@ -648,6 +695,153 @@ static void test_levels(int mode, int k) {
         test("its parts", inner > 0 && (outer > 0) == (mode >= 2) && inner + outer == 1000 * (size_t)figures[mode].slots &&
                               inner + outer + silent == 2 * b->cells);
         test("they come back", receive(b, 0) == FLO_DONE && came_back(b) && no_answer(b));
+    }
+}
+
+/* ---- floors, all values by hand */
+
+/* Levels, and the largest floor that each allows. The last level is too large for modes 2 to 4. */
+static const struct {
+    uint32_t level, most;
+} halves[] = {
+    {0x00800000, 0x00400000}, {0x00800001, 0x00400000}, {0x00800002, 0x00400001}, {0x00FFFFFF, 0x007FFFFF}, {0x01000000, 0x00800000},
+    {0x3F800000, 0x3F000000}, {0x3F800001, 0x3F000001}, {0x7EAAAAAA, 0x7E2AAAAA}, {0x7F7FFFFF, 0x7EFFFFFF},
+};
+enum { HALVES = sizeof halves / sizeof halves[0] };
+
+/* Whether this floor is written, read and sent with, and a grid as sent loses nothing; or refused by all calls, where it isn't allowed. */
+static int is_judged(int mode, int k, uint32_t level, uint32_t floor, int is_allowed) {
+    struct block *b = &one;
+    struct value v, back;
+    size_t i;
+    begin(b, mode, k, 15);
+    v = good_value(b);
+    v.level = float_of(level);
+    v.floor = float_of(floor);
+    if (!is_allowed) {
+        if (!is_unwritten(b, &v, FLO_BAD_FLOOR, floor_places[mode])) return 0;
+        v.floor = 0.0f;
+        b->due = 0;
+        if (write_value(b, &v) != FLO_DONE) return 0;
+        for (i = 0; i < 4; i++) b->profile[floor_places[mode] + i] = (uint8_t)(floor >> (24 - 8 * i));
+        b->due = floor_places[mode];
+        return is_refused(b, FLO_BAD_FLOOR);
+    }
+    if (write_value(b, &v) != FLO_DONE || b->profile_length != floor_places[mode] + 4) return 0;
+    for (i = 0; i < 4; i++)
+        if (b->profile[floor_places[mode] + i] != (uint8_t)(floor >> (24 - 8 * i))) return 0;
+    if (placed(b, flo_read_profile(b->profile, b->profile_length, back.masks, &back.level, &back.mode, &back.k, back.seeds, &back.floor,
+                                   &b->place)) != FLO_DONE) return 0;
+    if (bits_of(back.floor) != floor || bits_of(back.level) != level || back.mode != mode || memcmp(back.seeds, v.seeds, sizeof v.seeds) != 0) return 0;
+    if (send_block(b) != FLO_DONE || receive(b, 0) != FLO_DONE || !came_back(b) || !no_answer(b)) return 0;
+    memset(b->received, PAINT, sizeof b->received);
+    return feed_all(b, 5000) && ask(b, 0) == FLO_DONE && came_back(b) && no_answer(b);
+}
+
+static void test_floors(int mode, int k) {
+    /* negative ones and -0.0, infinities, NaNs, and the first whose double is infinite */
+    static const uint32_t bad[] = {0x80000000, 0x80000001, 0xBE800000, 0xFF800000, 0x7F800000, 0x7FC00000, 0x7F800001, 0xFFFFFFFF, 0x7F000000};
+    unsigned i, j;
+    for (i = 0; i < HALVES - (mode >= 2); i++) {
+        const uint32_t level = halves[i].level, most = halves[i].most;
+        test("the floor +0.0", is_judged(mode, k, level, 0, 1));
+        test("the smallest floor", is_judged(mode, k, level, 1, 1));
+        test("floors up to half the level", is_judged(mode, k, level, most - 1, 1) && is_judged(mode, k, level, most, 1));
+        test("a floor above half the level", is_judged(mode, k, level, most + 1, 0) && is_judged(mode, k, level, level, 0));
+        for (j = 0; j < sizeof bad / sizeof bad[0]; j++) test("a floor that no level allows", is_judged(mode, k, level, bad[j], 0));
+    }
+}
+
+/* Levels and floors, and the ends of the doubtful range around twice the level. 33A00000 is 1.25 * 2^-24: 2 less that is nearer to the float before 2
+   than to 2, and 2 and that is nearer to 2. In three rows D is the float after 1: three times it isn't exact, but twice it is. In the least level's
+   rows with 1 and 3 the sums lie in the middle of two floats, and the even one is taken, as with 7EAAAAAA. */
+static const struct range {
+    uint32_t level, floor, low, high;
+} ranges[] = {
+    {0x3F800000, 0x00000000, 0x40000000, 0x40000000}, {0x3F800000, 0x00000001, 0x40000000, 0x40000000},
+    {0x3F800000, 0x3E800000, 0x3FE00000, 0x40100000}, {0x3F800000, 0x3F000000, 0x3FC00000, 0x40200000},
+    {0x3F800000, 0x33A00000, 0x3FFFFFFF, 0x40000000}, {0x3F800000, 0x34000001, 0x3FFFFFFF, 0x40000001},
+    {0x3F800001, 0x00000000, 0x40000001, 0x40000001}, {0x3F800001, 0x3E800000, 0x3FE00002, 0x40100001},
+    {0x3F800001, 0x3F000001, 0x3FC00002, 0x40200001}, {0x00800000, 0x00000001, 0x00FFFFFF, 0x01000000},
+    {0x00800000, 0x00000003, 0x00FFFFFD, 0x01000002}, {0x00800000, 0x00400000, 0x00C00000, 0x01200000},
+    {0x7EAAAAAA, 0x7E2AAAAA, 0x7EFFFFFF, 0x7F555554},
+};
+enum { RANGES = sizeof ranges / sizeof ranges[0], ENDS = 3, PARTS = 2 * (3 * ENDS + 3) };
+
+/* The parts to try: each end, the float before it and the one after it, the level, infinity, NaN; all with both signs. Before +0.0 comes itself. */
+static uint32_t part_at(const struct range *r, unsigned i) {
+    const uint32_t ends[ENDS] = {r->floor, r->low, r->high}, others[3] = {r->level, 0x7F800000, 0x7FC00000}, sign = i % 2 * 0x80000000u;
+    uint32_t end;
+    i /= 2;
+    if (i >= 3 * ENDS) return others[i - 3 * ENDS] | sign;
+    end = ends[i / 3];
+    return (i % 3 == 2 ? end + 1 : i % 3 == 1 || end == 0 ? end : end - 1) | sign;
+}
+
+/* What a part decides to, as the bytes of a state number it. Without its sign a float's bits grow with it, and NaN's are above all others. */
+static int decided(int mode, const struct range *r, uint32_t bits) {
+    const uint32_t size = bits & 0x7FFFFFFF, sign = bits >> 31;
+    if (mode < 2) return size <= r->floor || size > 0x7F800000 ? 2 : (int)sign;
+    if (size <= r->floor || size > 0x7F800000 || (size >= r->low && size <= r->high)) return 4;
+    return (int)(size < r->low ? 2 + sign : sign);
+}
+
+static void begin_range(struct block *b, int mode, int k, const struct range *r) {
+    struct value v;
+    begin(b, mode, k, 16);
+    v = good_value(b);
+    v.level = float_of(r->level);
+    v.floor = float_of(r->floor);
+    test("a profile with a floor", write_value(b, &v) == FLO_DONE && send_block(b) == FLO_DONE);
+}
+
+/* Each part in the place of one of a packet's parts: the packet is lost exactly when it isn't decided as what was sent. */
+static void test_range(int mode, int k, const struct range *r) {
+    struct block *b = &one;
+    unsigned i;
+    begin_range(b, mode, k, r);
+    for (i = 0; i < PARTS; i++) {
+        const uint32_t bits = part_at(r, i);
+        const unsigned bit = i * 14 % 1400;
+        float *part = part_of(b, 3, bit);
+        const float sent = *part;
+        const int same = decided(mode, r, bits) == decided(mode, r, bits_of(sent)), doubtful = decided(mode, r, bits) == (mode >= 2 ? 4 : 2);
+        *part = float_of(bits);
+        test("a part at an end of a range or beside it", receive(b, 0) == FLO_DONE && came_back(b) && b->lost == (same ? 0 : 8) &&
+                                                            (b->reasons[3] == FLO_DOUBTFUL) == doubtful);
+        *part = sent;
+    }
+}
+
+/* The same parts, first by first and second by second, as cells of a state; and one of them in a grid that is fed and asked for. */
+static void test_range_state(int mode, int k, const struct range *r) {
+    static float firsts[PARTS * PARTS], seconds[PARTS * PARTS];
+    static uint8_t state[FLO_STATE];
+    struct block *b = &one;
+    unsigned i;
+    begin_range(b, mode, k, r);
+    memset(b->state, 0, FLO_STATE);
+    memset(state, 0, sizeof state);
+    for (i = 0; i < PARTS * PARTS; i++) {
+        const uint32_t first = part_at(r, i % PARTS), second = part_at(r, i / PARTS);
+        firsts[i] = float_of(first);
+        seconds[i] = float_of(second);
+        state[2 + i] = (uint8_t)(decided(mode, r, first) + (mode >= 2 ? 5 : 3) * decided(mode, r, second));
+    }
+    state[0] = (uint8_t)(PARTS * PARTS / 256);
+    state[1] = (uint8_t)(PARTS * PARTS % 256);
+    test("cells at the ends", feed_lists(b, b->state, FLO_STATE, firsts, PARTS * PARTS, seconds, PARTS * PARTS) == FLO_DONE);
+    test("the bytes of cells at the ends", memcmp(b->state, state, FLO_STATE) == 0);
+    *part_of(b, 5, 100) = -float_of(r->floor);
+    if (mode >= 2) *part_of(b, 6, 100) = float_of(r->high);
+    test("a grid with them in pieces", feed_all(b, 3000) && ask(b, 0) == FLO_DONE && came_back(b) && b->lost == (mode >= 2 ? 0x60 : 0x20));
+}
+
+static void test_ranges(int mode, int k) {
+    unsigned i;
+    for (i = 0; i < RANGES; i++) {
+        test_range(mode, k, &ranges[i]);
+        test_range_state(mode, k, &ranges[i]);
     }
 }
 
@@ -867,9 +1061,10 @@ static void *call_ask(void *number) {
 
 static void *call_read_profile(void *number) {
     static uint32_t masks[FLO_MASKS], seeds[FLO_SEEDS];
-    static float level;
+    static float level, floor;
     static uint8_t mode, k;
-    *(uint32_t *)number = placed(&small, flo_read_profile(small.profile, small.profile_length, masks, &level, &mode, &k, seeds, &small.place));
+    *(uint32_t *)number =
+        placed(&small, flo_read_profile(small.profile, small.profile_length, masks, &level, &mode, &k, seeds, &floor, &small.place));
     return number;
 }
 
@@ -949,7 +1144,7 @@ int main(void) {
     static const int ks[] = {8, 12, 14};
     int i, mode;
     test("the sizes agree", FLO_BLOCK_BYTES == FLO_PACKETS * FLO_PACKET_BYTES && FLO_MOST_DATA == 14 * FLO_PACKET_BYTES &&
-                                FLO_MOST_SYMBOLS == FLO_SYMBOLS(0) && FLO_STATE == 2 + CELLS && FLO_DIFFERENCE == 6);
+                                FLO_MOST_SYMBOLS == FLO_SYMBOLS(0) && FLO_STATE == 2 + CELLS && FLO_DIFFERENCE == 6 && FLO_MOST_PROFILE == 252);
     for (i = 0; i < 3 * MODES; i++) {
         test_round_trip(i % MODES, ks[i / MODES]);
         test_points(i % MODES, ks[i / MODES]);
@@ -965,6 +1160,8 @@ int main(void) {
         test_levels(mode, ks[mode % 3]);
         test_lines(mode, ks[mode % 3]);
         test_state_lines(mode, ks[mode % 3]);
+        test_floors(mode, ks[mode % 3]);
+        test_ranges(mode, ks[mode % 3]);
     }
     test_compare();
     test_patterns();
