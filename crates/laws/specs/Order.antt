@@ -1,4 +1,4 @@
--- The order of the f32 values, their signs, and rounded values by fractions.
+-- The order of the f32 values, and their signs.
 use mathlib.Core.Path.{_≡_, refl, sym, _∙_, ap, subst}
 use mathlib.Core.Bool.{Bool, true, false, not, _&&_, _||_, and-true, and-false, Bool·not-not}
 use Prim.Native.Nat.{ℕ, _+_, _*_, _<_}
