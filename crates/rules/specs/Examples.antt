@@ -263,8 +263,9 @@ examples =
     ∷ record { given = weighedTwo 0x401F_FFFF ∷ weighedTwo 0x4020_0000 ∷ weighedTwo 0x4060_0000 ∷ weighedTwo 0x4060_0001 ∷ []; said = 2 ∷ 4 ∷ 4 ∷ 0 ∷ [] }
     ∷ record { given = weighedTwo 0xC01F_FFFF ∷ weighedTwo 0xC020_0000 ∷ weighedTwo 0xC060_0000 ∷ weighedTwo 0xC060_0001 ∷ []; said = 3 ∷ 4 ∷ 4 ∷ 1 ∷ [] }
     ∷ record { given = weighedTwo 0x4040_0000 ∷ weighedTwo 0x7FC0_0000 ∷ weighedTwo 0x7F80_0000 ∷ weighedTwo 0xFF80_0000 ∷ []; said = 4 ∷ 4 ∷ 0 ∷ 1 ∷ [] }
-    -- Req 07 the ends in one rounding: two would lose the floor that is 1.25 units of 1.0's last place, and 3D - (D + floor) one step of the second level;
-    -- the smallest subnormal floor at the least level and at 1.0; half the least level, and half the largest with a finite triple
+    -- Req 07 the ends in one rounding: of the first floor, 5/8 of the last place below 2.0, two would leave nothing (1.0 + (1.0 - floor)), and of the second
+    -- level 3D - (D + floor) is a step off; the smallest subnormal floor at the least level and at 1.0; half the least level, and half the largest with a
+    -- finite triple
     ∷ record { given = endsOf a1 0x33A0_0000 ++ endsOf 0x3F80_0001 0x3E80_0000; said = 0x3FFF_FFFF ∷ 0x4000_0000 ∷ 0x3FE0_0002 ∷ 0x4010_0001 ∷ [] }
     ∷ record { given = endsOf 0x0080_0000 1 ++ endsOf a1 1; said = 0x00FF_FFFF ∷ 0x0100_0000 ∷ 0x4000_0000 ∷ 0x4000_0000 ∷ [] }
     ∷ record {
