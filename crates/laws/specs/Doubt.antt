@@ -6,7 +6,7 @@ use Prim.Native.Nat.{ℕ, _+_, _*_, _^_, _≤_}
 use native.Mathlib.Decide.{ℕ-discrete}
 use native.Mathlib.Omega.{arith}
 use lib.Dec.{T, eqb}
-use lib.Ieee.{Float, nan, inf, fin, neg, lt, eq, le, isNan}
+use lib.Ieee.{Float, nan, inf, fin, neg, lt, le, isNan}
 use lib.Ieee.Positive.{above, above-of-le}
 use borrow.Author.Tests.{eq-eqb, ne-eqb}
 use Rattle.rules.specs.Bits.{pick}
@@ -61,11 +61,6 @@ module _ (a low high : Float) (n : Number a) (p : Number low) (q : Number high) 
 
   not-beyond : Within low high a → T (not (lt a low)) × T (not (lt high a))
   not-beyond w = (subst T (le-not-lt low a p n) (w .0), subst T (le-not-lt a high n q) (w .1))
-
--- NaN is in no range
-not-within : (low high : Float) → Within low high nan → ⊥
-unfolding le lt eq
-not-within low high w = w .1
 
 lt-nan : (a : Float) → lt a nan ≡ false
 unfolding lt

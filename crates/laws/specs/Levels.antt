@@ -123,61 +123,64 @@ more ks s t w h l r = omega arith
 
 module _ (A B : ℕ) where
   -- n / c is at least, and at most, k twentieths of A / B
-  abbrev pub Least : ℕ → ℕ → ℕ → Type 0
+  abbrev Least : ℕ → ℕ → ℕ → Type 0
   Least k n c = k * (A * c) ≤ 20 * (n * B)
 
-  abbrev pub Most : ℕ → ℕ → ℕ → Type 0
+  abbrev Most : ℕ → ℕ → ℕ → Type 0
   Most k n c = 20 * (n * B) ≤ k * (A * c)
+
+  -- both sides of such a comparison, times d
+  many : (k c d : ℕ) → k * (A * c) * d ≡ k * (A * (c * d))
+  many k c d = rw (mul-assoc k (A * c) d, mul-assoc A c d)
+
+  over : (n d : ℕ) → 20 * (n * B) * d ≡ 20 * (n * d * B)
+  over n d = rw (mul-assoc 20 (n * B) d, mul-right-comm n B d)
+
+  -- the same fraction with more digits
+  least-more : (k n c d : ℕ) → Least k n c → Least k (n * d) (c * d)
+  least-more k n c d l = rw (many k c d, over n d) at (mul-le-mul-right d l)
+
+  most-more : (k n c d : ℕ) → Most k n c → Most k (n * d) (c * d)
+  most-more k n c d l = rw (many k c d, over n d) at (mul-le-mul-right d l)
 
   module _ (k a c : ℕ) (x : Float) (h : k ≤ 100) (C : 0 < c) (r : Rounds a c x) where
     s : ℕ
-    s = A * c * den x
+    s = A * (c * den x)
 
     few : k * s ≤ 100 * s
     few = mul-le-mul-right s h
 
-    -- both sides of a comparison with x, times c
-    left : (i : ℕ) → i * (A * den x) * c ≡ i * s
+    -- a comparison with x, times c
+    times-c : (i : ℕ) → i * (A * den x) * c ≡ i * s
     unfolding s
-    left i = rw (mul-assoc i (A * den x) c, mul-right-comm A (den x) c)
-
-    right : 20 * (num x * B) * c ≡ 20 * (num x * c * B)
-    right = rw (mul-assoc 20 (num x * B) c, mul-right-comm (num x) B c)
-
-    -- and with a / c, times x's denominator
-    given : (i : ℕ) → i * (A * c) * den x ≡ i * s
-    unfolding s
-    given i = mul-assoc i (A * c) (den x)
-
-    part : 20 * (a * B) * den x ≡ 20 * (a * den x * B)
-    part = rw (mul-assoc 20 (a * B) (den x), mul-right-comm a B (den x))
+    times-c i = many i (den x) c ∙ ap (λ (y : ℕ). i * (A * y)) (mul-comm (den x) c)
 
     -- rounding takes less than one of them, and adds less than one
     round-least : Least (suc k) a c → Least k (num x) (den x)
+    unfolding s
     round-least l =
         le-of-mul-le-mul-right
-        (rw (left k, right)
-        (less (k * s) s (a * den x * B) (num x * c * B) few (rw (suc-mul k s) at (rw (given (suc k), part) at (mul-le-mul-right (den x) l)))
+        (rw (times-c k, over (num x) c)
+        (less (k * s) s (a * den x * B) (num x * c * B) few (rw (suc-mul k s) at (least-more (suc k) a c (den x) l))
         (rw (mul-assoc 8388607 (a * den x) B, mul-assoc 8388608 (num x * c) B) at (mul-le-mul-right B (r .close .0)))))
         C
 
     round-most : Most k a c → Most (suc k) (num x) (den x)
+    unfolding s
     round-most l =
         le-of-mul-le-mul-right
-        (rw (left (suc k), right, suc-mul k s)
-        (more (k * s) s (a * den x * B) (num x * c * B) few (rw (given k, part) at (mul-le-mul-right (den x) l))
+        (rw (times-c (suc k), over (num x) c, suc-mul k s)
+        (more (k * s) s (a * den x * B) (num x * c * B) few (most-more k a c (den x) l)
         (rw (mul-assoc 8388608 (num x * c) B, mul-assoc 8388609 (a * den x) B) at (mul-le-mul-right B (r .close .1)))))
         C
 
   -- of two fractions the one that has fewer of them is smaller
-  pub apart : (k l n c m d : ℕ) → 0 < A → 0 < c → 0 < d → k < l → Most k n c → Least l m d → n * d < m * c
+  apart : (k l n c m d : ℕ) → 0 < A → 0 < c → 0 < d → k < l → Most k n c → Least l m d → n * d < m * c
   apart k l n c m d a C E h p q =
-      let z = A * c * d in
-      let some : 0 < z = mul-pos (mul-pos a C) E in
-      let one : 20 * (n * d * B) ≤ k * z =
-      rw (mul-assoc 20 (n * B) d, mul-right-comm n B d, mul-assoc k (A * c) d) at (mul-le-mul-right d p) in
-      let two : l * z ≤ 20 * (m * c * B) =
-      rw (mul-assoc l (A * d) c, mul-right-comm A d c, mul-assoc 20 (m * B) c, mul-right-comm m B c) at (mul-le-mul-right c q) in
+      let z = A * (c * d) in
+      let some : 0 < z = mul-pos a (mul-pos C E) in
+      let one : 20 * (n * d * B) ≤ k * z = most-more k n c d p in
+      let two : l * z ≤ 20 * (m * c * B) = rw (mul-comm d c) at (least-more l m d c q) in
       let up : suc k ≤ l = h in
       let next : k * z + z ≤ l * z = rw (suc-mul k z) at (mul-le-mul-right z up) in
       lt-of-mul-lt-mul-right B (omega arith)
@@ -204,11 +207,14 @@ module _ (D : Float) (good : T (isLevel D)) where
       through 1 (num D) n (2 ^ 126) (den D) c (den-pos D) normal (omega arith)
 
   -- a multiple's fraction
+  in-parts : (k : ℕ) → 20 * k * (num D * den D) ≡ 20 * (k * num D * den D)
+  in-parts k = rw (mul-assoc 20 k (num D * den D), mul-assoc k (num D) (den D))
+
   least-times : (k : ℕ) → Least (num D) (den D) (20 * k) (k * num D) (den D)
-  least-times k = le-of-eq (rw (mul-assoc 20 k (num D * den D), mul-assoc k (num D) (den D)))
+  least-times k = le-of-eq (in-parts k)
 
   most-times : (k : ℕ) → Most (num D) (den D) (20 * k) (k * num D) (den D)
-  most-times k = le-of-eq (rw (mul-assoc 20 k (num D * den D), mul-assoc k (num D) (den D)))
+  most-times k = le-of-eq (sym (in-parts k))
 
   module _ (fine : T (hasTriple D)) where
     tripled : Rounds (3 * num D) (den D) (triple D)
@@ -239,7 +245,7 @@ module _ (D : Float) (good : T (isLevel D)) where
 -- ---- the floor
 
 -- -0.0 has the bit of its sign, so it is not among them
-pub floor-low : (a : Float) → T (isFloor a) → Low a
+floor-low : (a : Float) → T (isFloor a) → Low a
 unfolding ofBits toBits lt le
 floor-low nan h = absurd h
 floor-low (inf true) h = absurd h
@@ -274,7 +280,7 @@ module _ (D : Float) (good : T (isLevel D)) (F : Float) (under : T (floorUnder D
   half = rw (add-self low-floor) at (and-r (isFloor F) (le (add binary32 F F) D) under)
 
   -- half the level, and a twentieth for the rounding
-  pub floor-most : Most (num D) (den D) 11 (num F) (den F)
+  floor-most : Most (num D) (den D) 11 (num F) (den F)
   floor-most = go (leb (1 * c) (2 * n * 2 ^ 126)) refl
     where
       n : ℕ
@@ -335,23 +341,17 @@ module _ (D : Float) (good : T (isLevel D)) (F : Float) (under : T (floorUnder D
     low-twice : Low (twice D)
     low-twice = low (twice D) (doubled D good fine .high)
 
-    line-least : 39 * (num D * c) ≤ 20 * (m * den D)
+    line-least : Least (num D) (den D) 39 m c
     unfolding m c
-    line-least =
-        rw (mul-assoc 39 (num D * den (twice D)) (den F), mul-assoc (num D) (den (twice D)) (den F), mul-assoc 20 (num (twice D) * den D) (den F), mul-right-comm (num (twice D)) (den D) (den F))
-        at (mul-le-mul-right (den F) (twice-least D good fine))
+    line-least = least-more (num D) (den D) 39 (num (twice D)) (den (twice D)) (den F) (twice-least D good fine)
 
-    line-most : 20 * (m * den D) ≤ 41 * (num D * c)
+    line-most : Most (num D) (den D) 41 m c
     unfolding m c
-    line-most =
-        rw (mul-assoc 41 (num D * den (twice D)) (den F), mul-assoc (num D) (den (twice D)) (den F), mul-assoc 20 (num (twice D) * den D) (den F), mul-right-comm (num (twice D)) (den D) (den F))
-        at (mul-le-mul-right (den F) (twice-most D good fine))
+    line-most = most-more (num D) (den D) 41 (num (twice D)) (den (twice D)) (den F) (twice-most D good fine)
 
-    floor-small : 20 * (n * den D) ≤ 11 * (num D * c)
+    floor-small : Most (num D) (den D) 11 n c
     unfolding n c
-    floor-small =
-        rw (mul-assoc 20 (num F * den D) (den (twice D)), mul-right-comm (num F) (den D) (den (twice D)), mul-assoc 11 (num D * den F) (den (twice D)), mul-assoc (num D) (den F) (den (twice D)), mul-comm (den F) (den (twice D)))
-        at (mul-le-mul-right (den (twice D)) floor-most)
+    floor-small = rw (mul-comm (den F) (den (twice D))) at (most-more (num D) (den D) 11 (num F) (den F) (den (twice D)) floor-most)
 
     less-than : n ≤ m
     less-than = le-of-mul-le-mul-right (omega (arith, line-least, floor-small)) (den-pos D)
@@ -367,16 +367,20 @@ module _ (D : Float) (good : T (isLevel D)) (F : Float) (under : T (floorUnder D
     difference : (m - n) * den D + n * den D ≡ m * den D
     difference = sym (add-mul (m - n) n (den D)) ∙ ap (λ (k : ℕ). k * den D) (sub-add-cancel less-than)
 
+    near-least : Least (num D) (den D) 28 (m - n) c
+    near-least = omega (arith, difference, line-least, floor-small)
+
+    far-least : Least (num D) (den D) 39 (m + n) c
+    far-least = rw (add-mul m n (den D)) (omega (arith, line-least))
+
+    far-most : Most (num D) (den D) 52 (m + n) c
+    far-most = rw (add-mul m n (den D)) (omega (arith, line-most, floor-small))
+
     near-rounds : Rounds (m - n) c (nearEnd D F)
-    near-rounds =
-        rw near-is
-        (settled D good fine 28 41 (m - n) c c-pos (lit≤ tt) (lit≤ tt) (omega (arith, difference, line-least, floor-small)) (omega (arith, difference, line-most)))
+    near-rounds = rw near-is (settled D good fine 28 41 (m - n) c c-pos (lit≤ tt) (lit≤ tt) near-least (omega (arith, difference, line-most)))
 
     far-rounds : Rounds (m + n) c (farEnd D F)
-    far-rounds =
-        rw far-is
-        (settled D good fine 39 52 (m + n) c c-pos (lit≤ tt) (lit≤ tt) (rw (add-mul m n (den D)) (omega (arith, line-least)))
-        (rw (add-mul m n (den D)) (omega (arith, line-most, floor-small))))
+    far-rounds = rw far-is (settled D good fine 39 52 (m + n) c c-pos (lit≤ tt) (lit≤ tt) far-least far-most)
 
     pub near-positive : T (positive (nearEnd D F))
     near-positive = near-rounds .high
@@ -391,18 +395,18 @@ module _ (D : Float) (good : T (isLevel D)) (F : Float) (under : T (floorUnder D
     pub level-near : num D * den (nearEnd D F) < num (nearEnd D F) * den D
     level-near =
         apart (num D) (den D) 20 27 (num D) (den D) (num (nearEnd D F)) (den (nearEnd D F)) (level-pos D good) (den-pos D) (den-pos (nearEnd D F)) (lit< tt)
-        own-most (round-least (num D) (den D) 27 (m - n) c (nearEnd D F) (lit≤ tt) c-pos near-rounds (omega (arith, difference, line-least, floor-small)))
+        own-most (round-least (num D) (den D) 27 (m - n) c (nearEnd D F) (lit≤ tt) c-pos near-rounds near-least)
 
     pub level-far : num D * den (farEnd D F) < num (farEnd D F) * den D
     level-far =
         apart (num D) (den D) 20 38 (num D) (den D) (num (farEnd D F)) (den (farEnd D F)) (level-pos D good) (den-pos D) (den-pos (farEnd D F)) (lit< tt)
-        own-most (round-least (num D) (den D) 38 (m + n) c (farEnd D F) (lit≤ tt) c-pos far-rounds (rw (add-mul m n (den D)) (omega (arith, line-least))))
+        own-most (round-least (num D) (den D) 38 (m + n) c (farEnd D F) (lit≤ tt) c-pos far-rounds far-least)
 
     pub far-triple : num (farEnd D F) * den (triple D) < num (triple D) * den (farEnd D F)
     far-triple =
         apart (num D) (den D) 53 59 (num (farEnd D F)) (den (farEnd D F)) (num (triple D)) (den (triple D)) (level-pos D good) (den-pos (farEnd D F))
         (den-pos (triple D)) (lit< tt)
-        (round-most (num D) (den D) 52 (m + n) c (farEnd D F) (lit≤ tt) c-pos far-rounds (rw (add-mul m n (den D)) (omega (arith, line-most, floor-small))))
+        (round-most (num D) (den D) 52 (m + n) c (farEnd D F) (lit≤ tt) c-pos far-rounds far-most)
         (triple-least D good fine)
 
     pub low-triple : Low (triple D)
