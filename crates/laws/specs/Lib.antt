@@ -6,6 +6,7 @@ pub mod Doubt
 pub mod Floorless
 pub mod Rows
 pub mod Every
+pub mod First
 pub mod Filled
 pub mod Lists
 pub mod Bytes

@@ -83,14 +83,14 @@ unfolding codedBit state ending
 two-thirds-sent = refl
 
 -- The table of what the desk says back has these numbers and no other below a byte's 256, receiving reads the cells at these, and gives these reasons
-pub numbers-listed : passing 256 0 isNumber ≡ 0 ∷ 1 ∷ 2 ∷ 3 ∷ 5 ∷ 6 ∷ 7 ∷ 8 ∷ 9 ∷ 10 ∷ 16 ∷ 17 ∷ 18 ∷ 22 ∷ 40 ∷ 41 ∷ 42 ∷ 43 ∷ 44 ∷ 45 ∷ []
+pub numbers-listed : passing 256 0 isNumber ≡ 0 ∷ 1 ∷ 2 ∷ 3 ∷ 5 ∷ 6 ∷ 7 ∷ 8 ∷ 9 ∷ 10 ∷ 16 ∷ 17 ∷ 18 ∷ 22 ∷ 40 ∷ 41 ∷ 42 ∷ 43 ∷ 44 ∷ 45 ∷ 46 ∷ []
 numbers-listed = refl
 
--- of these, the ones that name a field and have a place
+-- of these, the ones that name a field, and the ones that have a place
 pub named-listed : passing 256 0 namesField ≡ 40 ∷ 41 ∷ 42 ∷ 43 ∷ 44 ∷ 45 ∷ []
 named-listed = refl
 
-pub placed-listed : passing 256 0 (λ n. isAnswer n 3) ≡ 40 ∷ 41 ∷ 42 ∷ 43 ∷ 44 ∷ 45 ∷ []
+pub placed-listed : passing 256 0 (λ n. isAnswer n 3) ≡ 40 ∷ 41 ∷ 42 ∷ 43 ∷ 44 ∷ 45 ∷ 46 ∷ []
 placed-listed = refl
 
 -- how many bytes the numbers of each field have

@@ -11,14 +11,19 @@ use Rattle.rules.specs.declared.Coding.the-variants.{Coded, WrongMode, W
 abbrev pub namesField : ℕ → Bool
 namesField n = leb 40 n && leb n 45
 
--- 0 done, 1 to 3 and 5 to 10 the refusals; and those of document 02: 16 too many cells, 17 the last cell not yet seen, 18 the four lists not all of one
--- length, 22 no such state, and 40 to 45, which stand where 4 stood
-abbrev pub isNumber : ℕ → Bool
-isNumber n = leb n 3 || leb 5 n && leb n 10 || leb 16 n && leb n 18 || eqb n 22 || namesField n
+-- the numbers that say what is at fault in a profile, with a place: these, with the byte where the faulty number begins, and 46 twin scrambling, with the
+-- block slot that repeats an earlier one (Req 08)
+abbrev pub namesFault : ℕ → Bool
+namesFault n = namesField n || eqb n 46
 
--- a number of the table, and a place only where it names a field
+-- 0 done, 1 to 3 and 5 to 10 the refusals; and those of document 02: 16 too many cells, 17 the last cell not yet seen, 18 the four lists not all of one
+-- length, 22 no such state, and 40 to 46, which stand where 4 stood
+abbrev pub isNumber : ℕ → Bool
+isNumber n = leb n 3 || leb 5 n && leb n 10 || leb 16 n && leb n 18 || eqb n 22 || namesFault n
+
+-- a number of the table, and a place only where it names a fault of the profile
 abbrev pub isAnswer : ℕ → ℕ → Bool
-isAnswer n place = isNumber n && (namesField n || eqb place 0)
+isAnswer n place = isNumber n && (namesFault n || eqb place 0)
 
 -- the numbers at which receiving has read the cells: mask and reasons are given, and something may count as accepted
 abbrev pub hasRead : ℕ → Bool

@@ -20,6 +20,11 @@ abbrev pub passing : ℕ → ℕ → (ℕ → Bool) → List ℕ
 passing zero k f = []
 passing (suc n) k f = let rest = passing n (suc k) f in pick (f k) (k ∷ rest) rest
 
+-- the first of the n numbers from k on that passes a test; k + n where none does
+abbrev pub firstFrom : ℕ → ℕ → (ℕ → Bool) → ℕ
+firstFrom zero k f = k
+firstFrom (suc n) k f = pick (f k) k (firstFrom n (suc k) f)
+
 -- a list as a row, with zeros after its end
 abbrev pub row : List ℕ → ℕ → ℕ
 row l i = getD l i 0

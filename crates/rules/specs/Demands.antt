@@ -1,4 +1,4 @@
--- The founder's three sentences, and what Req 05 and Req 07 of document 02 promise, as propositions about the calls' rules. That every call comes back, with no `requires`, and answers by its rule is
+-- The founder's three sentences, and what Req 05, Req 07 and Req 08 of document 02 promise, as propositions about the calls' rules. That every call comes back, with no `requires`, and answers by its rule is
 -- each function's own contract; card/proofs proves these.
 use mathlib.Core.Path.{_≡_}
 use mathlib.Core.List.{List, _++_}
@@ -12,10 +12,10 @@ use Rattle.rules.specs.Bits.{row, differ}
 use Rattle.rules.specs.Packet.{packetBit}
 use Rattle.rules.specs.Outer.{marked}
 use Rattle.rules.specs.Modes.{partBits, slotBits, packetBits, slots, symbols}
-use Rattle.rules.specs.Slots.{coded}
+use Rattle.rules.specs.Slots.{coded, symbolOf, slotNumber}
 use Rattle.rules.specs.Points.{zeroPart, part, doubtful, nearEnd, farEnd, decide, decideWithout}
-use Rattle.rules.specs.Profile.{fields, only, fault, inRange, Shape, Whole, reading, readAs, headed, spelt, written, writing, blank, largest}
-use Rattle.rules.specs.Answers.{isNumber, isAnswer, namesField, isReason, hasRead}
+use Rattle.rules.specs.Profile.{fields, only, fault, inRange, faultless, Shape, Whole, reading, refused, readAs, headed, spelt, written, writing, blank, largest}
+use Rattle.rules.specs.Answers.{isNumber, isAnswer, namesFault, isReason, hasRead}
 use Rattle.rules.specs.Block.{scrambler, sentBit, heard, Cells, SendRule, SendSymbolRule}
 use Rattle.rules.specs.Block.{Accepted, ReceiveRule}
 use Rattle.rules.specs.Pieces.{FeedRule, AskRule, Fed, LeftBy}
@@ -71,9 +71,9 @@ SomePacket P f s p =
     (e : ℕ → ℕ) × ((j : ℕ) → j < 122 → e j < 256)
     × ((i : ℕ) → i < packetBits (P .mode) → heardInPlace P f s p i ≡ bitInPlace P e p i)
 
--- an answer names a field exactly where the profile has a number out of its range, and then it is what is at fault there
+-- an answer names a fault of the profile exactly where it has one, and then it is that
 abbrev pub Names : Profile → Answer → Type 0
-Names P a = (T (namesField (a .number)) ↔ ¬ T (inRange P)) × (¬ T (inRange P) → a ≡ fault P)
+Names P a = (T (namesFault (a .number)) ↔ ¬ T (faultless P)) × (¬ T (faultless P) → a ≡ fault P)
 
 pub record D2 : Type 0 where
   -- sending a block fills the grid with exactly the cells that the rules give, and does so wherever profile and lengths are right
@@ -84,7 +84,7 @@ pub record D2 : Type 0 where
   pub sends : (P : Profile) (d : List ℕ) (f s f' s' : List Float) (a : Answer)
       → SendRule P d f s f' s' a
       → (a .number ≡ 0)
-      ↔ (T (inRange P) × (length d ≡ 122 * P .k) × (length f ≡ 4096 * symbols (P .mode)) × (length s ≡ 4096 * symbols (P .mode)))
+      ↔ (T (faultless P) × (length d ≡ 122 * P .k) × (length f ≡ 4096 * symbols (P .mode)) × (length s ≡ 4096 * symbols (P .mode)))
   pub one-grid : (P : Profile) (d : List ℕ) (f s f' s' f'' s'' : List Float) (a b : Answer)
       → SendRule P d f s f' s' a
       → SendRule P d f s f'' s'' b
@@ -107,7 +107,7 @@ pub record D2 : Type 0 where
   pub reads : (P : Profile) (marks : ℕ) (f s : List Float) (before after : List ℕ) (a : Receipt)
       → ReceiveRule P marks f s before after a
       → T (hasRead (a .number))
-      ↔ (T (inRange P) × (length before ≡ 122 * P .k) × (length f ≡ 4096 * symbols (P .mode)) × (length s ≡ 4096 * symbols (P .mode)))
+      ↔ (T (faultless P) × (length before ≡ 122 * P .k) × (length f ≡ 4096 * symbols (P .mode)) × (length s ≡ 4096 * symbols (P .mode)))
   pub nothing-accepted : (P : Profile) (marks : ℕ) (f s : List Float) (before after : List ℕ) (a : Receipt)
       → ReceiveRule P marks f s before after a
       → ¬ T (hasRead (a .number))
@@ -136,14 +136,14 @@ pub record D2 : Type 0 where
   pub feed-22 : (P : Profile) (f s : List Float) (before after : List ℕ) (a : Answer)
       → ((i : ℕ) → row before i < 256)
       → FeedRule P f s before after a
-      → (a .number ≡ 22) ↔ (T (inRange P) × ¬ LeftBy (FeedRule P) before)
+      → (a .number ≡ 22) ↔ (T (faultless P) × ¬ LeftBy (FeedRule P) before)
   pub ask-22 : (P : Profile) (marks : ℕ) (state before after : List ℕ) (a : Receipt)
       → ((i : ℕ) → row state i < 256)
       → AskRule P marks state before after a
-      → (a .number ≡ 22) ↔ (T (inRange P) × ¬ LeftBy (FeedRule P) state)
+      → (a .number ≡ 22) ↔ (T (faultless P) × ¬ LeftBy (FeedRule P) state)
   -- after pieces that were fed, every piece is taken that has lists of one length and ends within the grid, and no other
   pub takes : (P : Profile) (f s f' s' : List Float) (before after : List ℕ) (a : Answer)
-      → T (inRange P)
+      → T (faultless P)
       → Fed (FeedRule P) f s before
       → FeedRule P f' s' before after a
       → (a .number ≡ 0) ↔ ((length f' ≡ length s') × (length f + length f' ≤ 4096 * symbols (P .mode)))
@@ -165,7 +165,7 @@ pub record D2 : Type 0 where
   pub ask-reads : (P : Profile) (marks : ℕ) (f s : List Float) (state before after : List ℕ) (a : Receipt)
       → Fed (FeedRule P) f s state
       → AskRule P marks state before after a
-      → T (hasRead (a .number)) ↔ (T (inRange P) × (length before ≡ 122 * P .k) × (length f ≡ 4096 * symbols (P .mode)))
+      → T (hasRead (a .number)) ↔ (T (faultless P) × (length before ≡ 122 * P .k) × (length f ≡ 4096 * symbols (P .mode)))
   pub ask-accepts : (P : Profile) (marks : ℕ) (f s : List Float) (state before after : List ℕ) (a : Receipt)
       → Fed (FeedRule P) f s state
       → AskRule P marks state before after a
@@ -186,9 +186,9 @@ pub record D2 : Type 0 where
       → AskRule P marks state before after a
       → AskRule P marks state before after' a'
       → (a ≡ a') × (after ≡ after')
-  -- a profile is read and written by the same rules: what is in range is written, reading the written bytes gives the value back, and what reads well
+  -- a profile is read and written by the same rules: what is faultless is written, reading the written bytes gives the value back, and what reads well
   -- is what is written
-  pub writes : (P : Profile) → (writing P .number ≡ 0) ↔ T (inRange P)
+  pub writes : (P : Profile) → (writing P .number ≡ 0) ↔ T (faultless P)
   pub read-written : (P : Profile)
       → Shape P
       → writing P .number ≡ 0
@@ -199,9 +199,9 @@ pub record D2 : Type 0 where
       → writing (reading s .profile) ≡ record { number = 0; place = 0; bytes = s ++ replicate (largest - length s) 0; count = length s }
   -- for bytes whose headers and lengths are right, reading answers what the value so read is refused with, or the value
   pub read-refused : (s : List ℕ) → T (headed fields blank s) → reading s ≡ readAs (spelt fields blank s)
-  -- so the place is counted as if the value had been written out: its bytes, written out in range or not, are read so
+  -- so the place is counted as if the value had been written out: its bytes, written out at fault or not, are read so
   pub written-out : (P : Profile) → Shape P → Whole P → reading (written P) ≡ readAs P
-  -- a call names a field exactly where the profile has a number out of its range, and then it answers what is at fault there
+  -- a call names a fault of the profile exactly where it has one, and then it answers that
   pub send-names : (P : Profile) (d : List ℕ) (f s f' s' : List Float) (a : Answer) → SendRule P d f s f' s' a → Names P a
   pub symbol-names : (P : Profile) (d : List ℕ) (symbol : ℕ) (f s f' s' : List Float) (a : Answer)
       → SendSymbolRule P d symbol f s f' s' a
@@ -256,14 +256,14 @@ BringsBack P marks d f s before after lost number =
 pub record D3 : Type 0 where
   -- a grid that holds the sent cells is heard as sent
   pub heard-as-sent : (P : Profile) (d : List ℕ) (f s : List Float)
-      → T (inRange P)
+      → T (faultless P)
       → Cells P d 0 (symbols (P .mode)) f s
       → (p i : ℕ)
       → p < 16
       → i < packetBits (P .mode)
       → heardInPlace P f s p i ≡ sentInPlace P d p i
   pub sent-and-received : (P : Profile) (d : List ℕ) (marks : ℕ) (f s : List Float) (before after : List ℕ) (a : Receipt)
-      → T (inRange P)
+      → T (faultless P)
       → length d ≡ 122 * P .k
       → ((i : ℕ) → row d i < 256)
       → length before ≡ 122 * P .k
@@ -350,10 +350,35 @@ pub record WeakCells : Type 0 where
   pub as-before : (w : ℕ) (level a : Float) → decide w level zeroPart a ≡ decideWithout w level a
   -- with a good profile the doubtful parts are exactly the weak ones
   pub doubtful-exactly : (P : Profile) (a : Float)
-      → T (inRange P)
+      → T (faultless P)
       → (decide (partBits (P .mode)) (P .level) (P .floor) a ≡ 2 ^ partBits (P .mode)) ↔ Weak (partBits (P .mode)) (P .level) (P .floor) a
   -- and none that is sent is among them
   pub never-sent : (P : Profile) (s : ℕ → ℕ)
-      → T (inRange P)
+      → T (faultless P)
       → ((j : ℕ) → s j < 2)
       → decide (partBits (P .mode)) (P .level) (P .floor) (part (partBits (P .mode)) (P .level) s) < 2 ^ partBits (P .mode)
+
+-- ---- Req 08. No twins in one symbol
+
+-- block slot t repeats an earlier one: of its symbol, with the same seed and the same mask
+abbrev pub Repeats : Profile → ℕ → Type 0
+Repeats P t =
+    (u : ℕ) × (u < t) × (symbolOf u ≡ symbolOf t) × (row (P .seeds) u ≡ row (P .seeds) t)
+    × (row (P .masks) (slotNumber u) ≡ row (P .masks) (slotNumber t))
+
+-- and no slot before t repeats one
+abbrev pub FirstRepeat : Profile → ℕ → Type 0
+FirstRepeat P t = (t < slots (P .mode)) × Repeats P t × ((v : ℕ) → v < t → ¬ Repeats P v)
+
+abbrev pub twinsAt : ℕ → Answer
+twinsAt t = record { number = 46; place = t }
+
+pub record NoTwins : Type 0 where
+  -- 46 with slot t exactly where every number is in its range and t is the first slot that repeats an earlier one
+  pub of-value : (P : Profile) (t : ℕ) → (fault P ≡ twinsAt t) ↔ (T (inRange P) × FirstRepeat P t)
+  -- so for bytes, where headers and lengths are right and nothing is left over, of the value that stands there
+  pub of-bytes : (s : List ℕ) (t : ℕ)
+      → (reading s ≡ refused (twinsAt t))
+      ↔ (T (headed fields blank s) × T (inRange (spelt fields blank s)) × FirstRepeat (spelt fields blank s) t)
+  -- a profile is faultless exactly where every number is in its range and no slot repeats an earlier one
+  pub allowed : (P : Profile) → T (faultless P) ↔ (T (inRange P) × ((t : ℕ) → t < slots (P .mode) → ¬ Repeats P t))

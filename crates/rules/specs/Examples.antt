@@ -1,5 +1,5 @@
 -- Document 01, "Bench examples", those marked P, and what document 02 names (Req 01 the places of points, Req 04 those of what is at fault in a profile,
--- Req 05 two grids side by side, Req 06 the modes of 16QAM, Req 07 the floor): what the rules give, and what the documents say.
+-- Req 05 two grids side by side, Req 06 the modes of 16QAM, Req 07 the floor, Req 08 twin scrambling): what the rules give, and what the documents say.
 use mathlib.Core.Path.{_≡_}
 use mathlib.Core.List.{List, [], _∷_, _++_}
 use Prim.Native.Nat.{ℕ, zero, suc, _+_, _-_, _/_, _%_, _^_}
@@ -45,6 +45,10 @@ someLevel = 0x3FC0_0000
 -- n ones, but x at i
 abbrev pub onesBut : ℕ → ℕ → ℕ → List ℕ
 onesBut n i x = replicate i 1 ++ (x ∷ replicate (n - 1 - i) 1)
+
+-- eight masks, no two the same: then no two slots of a symbol are twins, whatever their seeds
+abbrev pub eight : List ℕ
+eight = firstOf 8 suc
 
 -- what a profile is refused with, as a value and as bytes; masks and seeds are given, and level and floor by their bits
 abbrev pub withFloor : ℕ → List ℕ → ℕ → ℕ → ℕ → List ℕ → Profile
@@ -114,7 +118,19 @@ endsOf level floor =
 
 -- a profile that is good but for its floor, in mode 0, by that one's bits
 abbrev pub floored : ℕ → Profile
-floored floor = withFloor floor (replicate 8 1) someLevel 0 14 (replicate 48 1)
+floored floor = withFloor floor eight someLevel 0 14 (replicate 48 1)
+
+-- the seeds 1, 2, .. of n slots, of which slot t has slot u's
+abbrev pub seedsWith : ℕ → ℕ → ℕ → List ℕ
+seedsWith n u t = firstOf n (λ i. suc (pick (eqb i t) u i)) ++ replicate (48 - n) 0
+
+-- a profile in a mode of n slots in which all masks are the same, and slot t has the seed of slot u; with slot t itself no two are the same
+abbrev pub twinned : ℕ → ℕ → ℕ → ℕ → Profile
+twinned mode n u t = valueOf (replicate 8 1) someLevel mode 14 (seedsWith n u t)
+
+-- one in mode 0 in which all seeds are the same
+abbrev pub masked : List ℕ → Profile
+masked masks = valueOf masks someLevel 0 14 (replicate 48 1)
 
 -- the largest level whose triple is finite, by its bits
 abbrev pub mostTripled : ℕ
@@ -177,8 +193,8 @@ examples =
     ∷ record { given = asValue (valueOf (replicate 8 1) someLevel 1 14 (replicate 48 1)); said = 44 ∷ 181 ∷ [] }
     ∷ record { given = asValue (valueOf (replicate 8 1) someLevel 1 14 (replicate 32 1 ++ (replicate 15 0 ++ (1 ∷ [])))); said = 44 ∷ 241 ∷ [] }
     -- and one with nothing at fault
-    ∷ record { given = asValue (valueOf (replicate 8 0xF_FFFF) someLevel 0 8 (replicate 48 0xF_FFFF)); said = 0 ∷ 0 ∷ [] }
-    ∷ record { given = asBytes (valueOf (replicate 8 1) someLevel 1 12 (replicate 32 1 ++ replicate 16 0)); said = 0 ∷ 0 ∷ [] }
+    ∷ record { given = asValue (valueOf (firstOf 8 (λ i. 0xF_FFFF - i)) someLevel 0 8 (replicate 48 0xF_FFFF)); said = 0 ∷ 0 ∷ [] }
+    ∷ record { given = asBytes (valueOf eight someLevel 1 12 (replicate 32 1 ++ replicate 16 0)); said = 0 ∷ 0 ∷ [] }
     -- Req 05 +0.0 and -0.0, the same NaN, another NaN in the second part, the same numbers, a NaN with the other sign
     ∷ record {
       given = differing
@@ -245,11 +261,11 @@ examples =
     ∷ record { given = bitIn 2 0 0 ∷ bitIn 2 0 1 ∷ bitIn 2 1 0 ∷ bitIn 2 1 1 ∷ []; said = 0 ∷ 0 ∷ 0 ∷ 1 ∷ [] }
     ∷ record { given = bitIn 2 2 0 ∷ bitIn 2 2 1 ∷ bitIn 2 3 0 ∷ bitIn 2 3 1 ∷ bitIn 2 4 0 ∷ bitIn 2 4 1 ∷ []; said = 1 ∷ 0 ∷ 1 ∷ 1 ∷ 2 ∷ 2 ∷ [] }
     -- Req 06 the largest level with a finite triple in a mode of 16QAM; the next one is 41 there, before K's 43 and after the mode's 42, and none in QPSK
-    ∷ record { given = asBytes (valueOf (replicate 8 1) mostTripled 4 14 (replicate 12 1 ++ replicate 36 0)); said = 0 ∷ 0 ∷ [] }
+    ∷ record { given = asBytes (valueOf eight mostTripled 4 14 (replicate 12 1 ++ replicate 36 0)); said = 0 ∷ 0 ∷ [] }
     ∷ record { given = asBytes (valueOf (replicate 8 1) (mostTripled + 1) 2 9 (replicate 24 1 ++ replicate 24 0)); said = 41 ∷ 38 ∷ [] }
     ∷ record { given = asValue (valueOf (replicate 8 1) (mostTripled + 1) 3 14 (replicate 48 0)); said = 41 ∷ 38 ∷ [] }
     ∷ record { given = asValue (valueOf (replicate 8 1) (mostTripled + 1) 5 14 (replicate 48 0)); said = 42 ∷ 45 ∷ [] }
-    ∷ record { given = asBytes (valueOf (replicate 8 1) 0x7F7F_FFFF 1 8 (replicate 32 1 ++ replicate 16 0)); said = 0 ∷ 0 ∷ [] }
+    ∷ record { given = asBytes (valueOf eight 0x7F7F_FFFF 1 8 (replicate 32 1 ++ replicate 16 0)); said = 0 ∷ 0 ∷ [] }
     -- Req 06 the last seed in use and the first that is not, of modes 2 to 4
     ∷ record { given = asBytes (valueOf (replicate 8 1) someLevel 2 14 (onesBut 48 23 0)); said = 44 ∷ 145 ∷ [] }
     ∷ record { given = asValue (valueOf (replicate 8 1) someLevel 3 14 (replicate 48 1)); said = 44 ∷ 117 ∷ [] }
@@ -277,7 +293,7 @@ examples =
     ∷ record { given = asBytes (floored 0x3F40_0001) ++ asBytes (floored 0x8000_0000) ++ asValue (floored 0x8000_0001); said = 45 ∷ 248 ∷ 45 ∷ 248 ∷ 45 ∷ 248 ∷ [] }
     ∷ record { given = asBytes (floored 0x7F80_0000) ++ asValue (floored 0x7FC0_0000); said = 45 ∷ 248 ∷ 45 ∷ 248 ∷ [] }
     ∷ record {
-      given = asBytes (withFloor 0x7EFF_FFFF (replicate 8 1) 0x7F7F_FFFF 1 14 (replicate 32 1 ++ replicate 16 0))
+      given = asBytes (withFloor 0x7EFF_FFFF eight 0x7F7F_FFFF 1 14 (replicate 32 1 ++ replicate 16 0))
           ++ asBytes (withFloor 0x7F7F_FFFF (replicate 8 1) 0x7F7F_FFFF 1 14 (replicate 32 1 ++ replicate 16 0))
           ++ asValue (withFloor 0x3F40_0001 (replicate 8 1) someLevel 4 14 (replicate 12 1 ++ replicate 36 0));
       said = 0 ∷ 0 ∷ 45 ∷ 184 ∷ 45 ∷ 104 ∷ [];
@@ -291,5 +307,28 @@ examples =
           ∷ length (written (floored 0))
           ∷ [];
       said = 5 ∷ 1 ∷ 2 ∷ 252 ∷ [];
+    }
+    -- Req 08 the later slot is the place: the first pair of a symbol, its first and last slot, its last pair, a pair of a middle symbol, the last pair of a block
+    ∷ record { given = asValue (twinned 4 12 0 1) ++ asBytes (twinned 4 12 0 6) ++ asValue (twinned 4 12 5 6); said = 46 ∷ 1 ∷ 46 ∷ 6 ∷ 46 ∷ 6 ∷ [] }
+    ∷ record { given = asBytes (twinned 0 48 22 26) ++ asValue (twinned 0 48 46 47); said = 46 ∷ 26 ∷ 46 ∷ 47 ∷ [] }
+    -- Req 08 the short last symbols of modes 1 to 4
+    ∷ record { given = asValue (twinned 1 32 28 31) ++ asBytes (twinned 2 24 21 23); said = 46 ∷ 31 ∷ 46 ∷ 23 ∷ [] }
+    ∷ record { given = asBytes (twinned 3 16 14 15) ++ asBytes (twinned 4 12 7 11); said = 46 ∷ 15 ∷ 46 ∷ 11 ∷ [] }
+    -- Req 08 allowed: no two seeds the same; the same seed in two symbols, in slots next to each other and of one slot number
+    ∷ record { given = asBytes (twinned 0 48 0 0) ++ asValue (twinned 4 12 6 7) ++ asBytes (twinned 4 12 0 7); said = replicate 6 0 }
+    -- Req 08 all seeds the same: allowed where the masks of slot numbers 1 to 7 differ, whatever mask 0 is; masks 3 and 7 the same; all
+    ∷ record { given = asBytes (masked eight) ++ asValue (masked (2 ∷ 1 ∷ 2 ∷ 3 ∷ 4 ∷ 5 ∷ 6 ∷ 7 ∷ [])); said = replicate 4 0 }
+    ∷ record { given = asBytes (masked (1 ∷ 2 ∷ 3 ∷ 4 ∷ 5 ∷ 6 ∷ 7 ∷ 4 ∷ [])) ++ asValue (masked (replicate 8 1)); said = 46 ∷ 6 ∷ 46 ∷ 1 ∷ [] }
+    -- Req 08 of two slots that repeat one the first, of pairs in two symbols the first
+    ∷ record {
+      given = asValue (valueOf (replicate 8 1) someLevel 4 14 ((1 ∷ 2 ∷ 3 ∷ 2 ∷ 5 ∷ 2 ∷ 3 ∷ 8 ∷ 8 ∷ 10 ∷ 11 ∷ 12 ∷ []) ++ replicate 36 0));
+      said = 46 ∷ 3 ∷ [];
+    }
+    -- Req 08 any other fault comes first: the floor, an unused seed, surplus bytes
+    ∷ record {
+      given = asBytes (withFloor 0x8000_0000 (replicate 8 1) someLevel 4 14 (seedsWith 12 0 1))
+          ++ asValue (valueOf (replicate 8 1) someLevel 4 14 (replicate 48 1))
+          ++ (reading (written (twinned 4 12 0 1) ++ (7 ∷ 0 ∷ [])) .number ∷ reading (written (twinned 4 12 0 1) ++ (7 ∷ 0 ∷ 0 ∷ [])) .number ∷ []);
+      said = 45 ∷ 104 ∷ 44 ∷ 101 ∷ 1 ∷ 2 ∷ [];
     }
     ∷ []

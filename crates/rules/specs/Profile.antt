@@ -1,4 +1,5 @@
--- Document 01, "Profile", and document 02, Req 04 and Req 07: the fields as a table that reading, writing and finding what is at fault in a value walk.
+-- Document 01, "Profile", and document 02, Req 04 and Req 07: the fields as a table that reading, writing and finding what is at fault in a value walk; and
+-- what is looked for after them, twin scrambling (Req 08).
 use mathlib.Core.Path.{_≡_}
 use mathlib.Core.Bool.{Bool, not, _&&_, _||_}
 use mathlib.Core.List.{List, [], _∷_, _++_}
@@ -6,9 +7,10 @@ use Prim.Native.Nat.{ℕ, zero, suc, _+_, _-_, _*_, _/_, _%_, _^_, _<_, _≤_}
 use lib.Dec.{T, eqb, leb, ltb}
 use lib.Ieee.{Float, binary32, ofBits, toBits, add, lt, le, fits}
 use lib.ListN.{length, take, drop, replicate}
-use Rattle.rules.specs.Bits.{pick, row}
+use Rattle.rules.specs.Bits.{pick, row, firstFrom}
 use Rattle.rules.specs.Outer.{isK}
 use Rattle.rules.specs.Modes.{isMode, partBits, slots}
+use Rattle.rules.specs.Slots.{symbolOf, slotNumber}
 use Rattle.rules.specs.Points.{zeroPart, triple}
 use Rattle.rules.specs.declared.Answer.{Answer}
 use Rattle.rules.specs.declared.Profile.{Profile}
@@ -74,7 +76,7 @@ each size f (x ∷ xs) = record { size = size; good = f x } ∷ each size f xs
 
 -- ---- answers
 
--- a number that names no field: the place is zero
+-- a number that names no fault of the profile: the place is zero
 abbrev pub only : ℕ → Answer
 only n = record { number = n; place = 0 }
 
@@ -208,16 +210,55 @@ abbrev pub faultFrom : List Field → ℕ → Profile → Answer
 faultFrom [] at p = only 0
 faultFrom (f ∷ fs) at p = faultOf f at p or faultFrom fs (at + 3 + f .due p) p
 
-unfoldable pub fault : Profile → Answer
-fault p = faultFrom fields 0 p
-
+-- every number is in its range
 unfoldable pub inRange : Profile → Bool
-inRange p = eqb (fault p .number) 0
+inRange p = eqb (faultFrom fields 0 p .number) 0
+
+-- ---- twin scrambling (Req 08)
+
+-- block slots u and t have the same seed and the same mask, each the mask of its slot number
+abbrev pub alike : List ℕ → List ℕ → ℕ → ℕ → Bool
+alike masks seeds u t = eqb (row seeds u) (row seeds t) && eqb (row masks (slotNumber u)) (row masks (slotNumber t))
+
+-- twins: such slots of one symbol
+abbrev pub areTwins : List ℕ → List ℕ → ℕ → ℕ → Bool
+areTwins masks seeds u t = eqb (symbolOf u) (symbolOf t) && alike masks seeds u t
+
+-- the first block slot that is t's twin; t itself where no earlier one is
+abbrev pub earliest : List ℕ → List ℕ → ℕ → ℕ
+earliest masks seeds t = firstFrom t 0 (λ u. areTwins masks seeds u t)
+
+-- slot t repeats an earlier one of its symbol
+abbrev pub repeats : List ℕ → List ℕ → ℕ → Bool
+repeats masks seeds t = ltb (earliest masks seeds t) t
+
+-- the first of n block slots that does; n where none does
+unfoldable pub firstRepeat : ℕ → List ℕ → List ℕ → ℕ
+firstRepeat n masks seeds = firstFrom n 0 (repeats masks seeds)
+
+-- 46 with that slot; 0 where there is none
+abbrev pub twinFault : Profile → Answer
+twinFault p =
+    let n = slots (p .mode) in
+    let t = firstRepeat n (p .masks) (p .seeds) in
+    pick (ltb t n) (record { number = 46; place = t }) (only 0)
+
+-- after all ranges
+unfoldable pub fault : Profile → Answer
+fault p = faultFrom fields 0 p or twinFault p
+
+-- nothing is at fault
+unfoldable pub faultless : Profile → Bool
+faultless p = eqb (fault p .number) 0
 
 -- ---- reading
 
 abbrev pub refused : Answer → Reading
 refused a = record { number = a .number; place = a .place; profile = blank }
+
+-- a reading, unless the answer has a number that refuses it
+abbrev pub unless : Answer → Reading → Reading
+unless a r = pick (eqb (a .number) 0) r (refused a)
 
 -- After the last field fewer than three bytes give 1, else 2. Per field, whose header begins at byte `at`: nothing left (5), header cut (1), tag (2),
 -- length (3), value cut (1), what is at fault in the value
@@ -232,8 +273,12 @@ walk (f ∷ fs) at p s =
     (let q = f .with p (take (f .due p) (drop 3 s)) in
     pick (eqb (faultOf f at q .number) 0) (walk fs (at + 3 + f .due p) q (drop (3 + f .due p) s)) (refused (faultOf f at q)))))))
 
+-- after the last field and what stands behind it, twins
+abbrev pub untwinned : Reading → Reading
+untwinned r = pick (eqb (r .number) 0) (unless (twinFault (r .profile)) r) r
+
 abbrev pub reading : List ℕ → Reading
-reading s = walk fields 0 blank s
+reading s = untwinned (walk fields 0 blank s)
 
 -- headers and lengths are right: field after field its tag, its length and so many bytes, and nothing after the last
 abbrev pub headed : List Field → Profile → List ℕ → Bool
@@ -250,7 +295,7 @@ spelt (f ∷ fs) p s = spelt fs (f .with p (take (f .due p) (drop 3 s))) (drop (
 
 -- the reading of a value: refused with what is at fault in it, else the value
 abbrev pub readAs : Profile → Reading
-readAs p = pick (inRange p) (record { number = 0; place = 0; profile = p }) (refused (fault p))
+readAs p = unless (fault p) (record { number = 0; place = 0; profile = p })
 
 -- ---- writing
 
@@ -266,6 +311,6 @@ largest = 252
 
 abbrev pub writing : Profile → Writing
 writing p =
-    pick (inRange p)
+    pick (faultless p)
     (record { number = 0; place = 0; bytes = written p ++ replicate (largest - length (written p)) 0; count = length (written p) })
     (record { number = fault p .number; place = fault p .place; bytes = replicate largest 0; count = 0 })
