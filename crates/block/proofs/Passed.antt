@@ -1,4 +1,4 @@
--- What the answer 0 tells, and what gives it: the profile is in its range, and all lengths are right.
+-- What the answer 0 tells, and what gives it: the profile is faultless, and all lengths are right.
 use mathlib.Core.Path.{_≡_, refl}
 use mathlib.Core.Bool.{Bool, true, false, not, _&&_}
 use mathlib.Core.Logic.{_↔_}
@@ -7,13 +7,13 @@ use native.Mathlib.Omega.{arith}
 use lib.Dec.{T, eqb, eqb→eq}
 use lib.Ieee.Fits.{eq→eqb}
 use Rattle.rules.specs.Bits.{pick}
-use Rattle.rules.specs.Profile.{inRange}
+use Rattle.rules.specs.Profile.{faultless}
 use Rattle.rules.specs.Block.{early}
 use Rattle.rules.specs.declared.Profile.{Profile}
 use Rattle.profile.proofs.AtFault.{or-number}
 
 pub record Right (P : Profile) (bytes firsts seconds cells : ℕ) : Type 0 where
-  pub range : T (inRange P)
+  pub range : T (faultless P)
   pub data-long : bytes ≡ 122 * P .k
   pub firsts-long : firsts ≡ cells
   pub seconds-long : seconds ≡ cells
@@ -35,7 +35,7 @@ right P bytes firsts seconds cells e =
     go false c d e = absurd (omega arith)
 
 pub early-right : (P : Profile) (bytes firsts seconds cells : ℕ)
-    → (early P bytes firsts seconds cells .number ≡ 0) ↔ (T (inRange P) × (bytes ≡ 122 * P .k) × (firsts ≡ cells) × (seconds ≡ cells))
+    → (early P bytes firsts seconds cells .number ≡ 0) ↔ (T (faultless P) × (bytes ≡ 122 * P .k) × (firsts ≡ cells) × (seconds ≡ cells))
 early-right P bytes firsts seconds cells = (
   (λ e. let w = right P bytes firsts seconds cells e in (w .range, w .data-long, w .firsts-long, w .seconds-long)),
   λ q.

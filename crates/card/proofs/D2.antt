@@ -13,8 +13,8 @@ use Rattle.rules.specs.Bits.{pick}
 use Rattle.rules.specs.Outer.{marked}
 use Rattle.rules.specs.Modes.{symbols}
 use Rattle.rules.specs.Points.{zeroPart, firstPart, secondPart}
-use Rattle.rules.specs.Profile.{only, _or_, inRange}
-use Rattle.rules.specs.Answers.{hasRead, namesField}
+use Rattle.rules.specs.Profile.{only, _or_, faultless}
+use Rattle.rules.specs.Answers.{hasRead, namesFault}
 use Rattle.rules.specs.Block.{lengths, early, Cells, sentCell, SendRule, SendSymbolRule, Accepted, ReceiveRule}
 use Rattle.rules.specs.Demands.{D2, SomePacket}
 use Rattle.rules.specs.declared.Answer.{Answer}
@@ -91,7 +91,7 @@ symbol-of-grid P d symbol f s f' s' F S F' S' i one all lt =
 -- a block is sent exactly where profile and lengths are right
 sends : (P : Profile) (d : List ℕ) (f s f' s' : List Float) (a : Answer) → SendRule P d f s f' s' a
     → (a .number ≡ 0)
-    ↔ (T (inRange P) × (length d ≡ 122 * P .k) × (length f ≡ 4096 * symbols (P .mode)) × (length s ≡ 4096 * symbols (P .mode)))
+    ↔ (T (faultless P) × (length d ≡ 122 * P .k) × (length f ≡ 4096 * symbols (P .mode)) × (length s ≡ 4096 * symbols (P .mode)))
 sends P d f s f' s' a r =
     let same = ap (λ (x : Answer). x .number) (r .answer) in
     let iff = early-right P (length d) (length f) (length s) (4096 * symbols (P .mode)) in
@@ -111,8 +111,8 @@ accepts P marks f s before after a r t p l u =
     ((λ x. iff .0 (sym is ∙ x .1)), λ q. (t, is ∙ iff .1 q))
 
 -- the numbers for lengths name no field
-unnamed : (P : Profile) (bytes firsts seconds cells : ℕ) → ¬ T (namesField (lengths (P .k) bytes firsts seconds cells))
-unnamed P = lengths-each (λ n. ¬ T (namesField n)) (λ t. t) (λ t. t) (λ t. t) (P .k)
+unnamed : (P : Profile) (bytes firsts seconds cells : ℕ) → ¬ T (namesFault (lengths (P .k) bytes firsts seconds cells))
+unnamed P = lengths-each (λ n. ¬ T (namesFault n)) (λ t. t) (λ t. t) (λ t. t) (P .k)
 
 pub d2 : D2
 d2 =
@@ -151,7 +151,7 @@ d2 =
           fault-names P _ a (unnamed P (length d) (length f) (length s) (4096 * symbols (P .mode))) (r .answer);
       symbol-names = λ P d symbol f s f' s' a r.
           fault-names P _ a
-          (symbol-each (λ n. ¬ T (namesField n)) (λ t. t) (λ t. t) (λ t. t) (λ t. t) (P .k) (length d) (length f) (length s) symbol (symbols (P .mode)))
+          (symbol-each (λ n. ¬ T (namesFault n)) (λ t. t) (λ t. t) (λ t. t) (λ t. t) (P .k) (length d) (length f) (length s) symbol (symbols (P .mode)))
           (r .answer ∙ symbol-answer P (length d) (length f) (length s) symbol (symbols (P .mode)));
       receive-names = λ P marks f s before after a.
           answered-names P marks _ _ before after a (unnamed P (length before) (length f) (length s) (4096 * symbols (P .mode)));

@@ -15,7 +15,7 @@ use Rattle.rules.specs.Packet.{packetBit}
 use Rattle.rules.specs.Outer.{isK, marked, Codeword, Agree}
 use Rattle.rules.specs.Modes.{packetBits, symbols}
 use Rattle.rules.specs.Slots.{coded}
-use Rattle.rules.specs.Profile.{inRange}
+use Rattle.rules.specs.Profile.{faultless}
 use Rattle.rules.specs.Block.{packet, decidedData, byteOf, verdict, Delivered, Judged, ReceiveRule, decided, lostMask}
 use Rattle.rules.specs.Demands.{D3, heardInPlace, sentInPlace, Wrong, Lost, Members, Fair, BringsBack}
 use Rattle.rules.specs.declared.Profile.{Profile}
@@ -126,7 +126,7 @@ delivers d (Delivered.tooMany many e) t fits all sent = ((λ h. absurd (omega ar
 delivers d (Delivered.noCodeword few j l none e) t fits all sent =
     ((λ h. absurd (none _ (sent j l .0) (sent j l .1))), λ h. absurd (omega arith))
 
-module _ (P : Profile) (d : List ℕ) (marks : ℕ) (f s : List Float) (before after : List ℕ) (a : Receipt) (t : T (inRange P))
+module _ (P : Profile) (d : List ℕ) (marks : ℕ) (f s : List Float) (before after : List ℕ) (a : Receipt) (t : T (faultless P))
     (bytes : (i : ℕ) → row d i < 256) (each : (p : ℕ) → p < 16 → Fair P marks d f s p) (j : Judged P marks (decided P f s) before after a) where
   -- kept exactly where the reason is 0
   kept-reason : (p : ℕ) → p < 16 → (marked (a .lost) p ≡ 0) ↔ (reasonIn P marks f s p ≡ 0)
@@ -162,7 +162,7 @@ module _ (P : Profile) (d : List ℕ) (marks : ℕ) (f s : List Float) (before a
   comes-back long = delivers d (j .delivered) (ranges P t .k) fits long (λ i l. (sent-word (P .k) d bytes i, agrees i l))
 
 brings-back : (P : Profile) (d : List ℕ) (marks : ℕ) (f s : List Float) (before after : List ℕ) (a : Receipt)
-    → T (inRange P)
+    → T (faultless P)
     → length d ≡ 122 * P .k
     → ((i : ℕ) → row d i < 256)
     → length before ≡ 122 * P .k

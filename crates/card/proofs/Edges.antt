@@ -15,7 +15,7 @@ use Rattle.rules.specs.Bits.{row, differ}
 use Rattle.rules.specs.Outer.{marked}
 use Rattle.rules.specs.Modes.{mode, slotBits, packetBits, slots, symbols}
 use Rattle.rules.specs.Points.{zeroPart, firstPart, secondPart}
-use Rattle.rules.specs.Profile.{only, inRange, Shape, reading, readAs, written}
+use Rattle.rules.specs.Profile.{only, faultless, Shape, reading, readAs, written}
 use Rattle.rules.specs.Answers.{isReason}
 use Rattle.rules.specs.Block.{Cells, sentCell, SendRule, SendSymbolRule, Accepted, ReceiveRule}
 use Rattle.rules.specs.Pieces.{seen, isState, askingNumber, asking, FeedRule, AskRule, Fed}
@@ -30,6 +30,7 @@ use Rattle.receiving.proofs.Fed.{Left, fed-left, left-state}
 use Rattle.card.proofs.D1.{d1}
 use Rattle.card.proofs.D2.{d2}
 use Rattle.card.proofs.D3.{d3}
+use Rattle.card.proofs.Twins.{no-twins}
 
 -- the reason of the last packet is one of the table's
 pub last-reason : (P : Profile) (marks : ℕ) (f s : List Float) (before after : List ℕ) (a : Receipt)
@@ -42,8 +43,8 @@ pub last-asked : (P : Profile) (marks : ℕ) (state before after : List ℕ) (a 
     → T (isReason (row (a .reasons) 15))
 last-asked P marks state before after a r = d1 .ask P marks state before after a r .1 15 (lit< tt)
 
--- after pieces that were fed, and with a profile in its range
-module _ (P : Profile) (f s : List Float) (state : List ℕ) (t : T (inRange P)) (h : Fed (FeedRule P) f s state) where
+-- after pieces that were fed, and with a faultless profile
+module _ (P : Profile) (f s : List Float) (state : List ℕ) (t : T (faultless P)) (h : Fed (FeedRule P) f s state) where
   left : Left P f s state
   left = fed-left P h
 
@@ -113,14 +114,14 @@ last-accepted P marks f s before after a i r u long x =
 
 -- the last bit of the last packet is heard as it was sent
 pub last-heard : (P : Profile) (d : List ℕ) (f s : List Float) (i : ℕ)
-    → T (inRange P)
+    → T (faultless P)
     → Cells P d 0 (symbols (P .mode)) f s
     → packetBits (P .mode) ≡ suc i
     → heardInPlace P f s 15 i ≡ sentInPlace P d 15 i
 last-heard P d f s i t c long = d3 .heard-as-sent P d f s t c 15 i (lit< tt) (omega arith)
 
 module _ (P : Profile) (d : List ℕ) (marks : ℕ) (f s : List Float) (before after : List ℕ) (a : Receipt)
-    (t : T (inRange P))
+    (t : T (faultless P))
     (long : length d ≡ 122 * P .k)
     (bytes : (i : ℕ) → row d i < 256)
     (room : length before ≡ 122 * P .k)
@@ -172,3 +173,13 @@ all-bits P S few a b rest =
     go : (i : ℕ) → slots (P .mode) ≤ i → Dec (i < 48) → row (P .seeds) i ≡ 0
     go i h (yes l) = rest i (omega (arith, h, slots-used (P .mode) few)) l
     go i h (no l) = List·getD-eq-default (P .seeds) 0 {n = i} (omega (arith, S .seeds))
+
+-- the last slot of a faultless profile is no twin of another one in its symbol
+pub last-slot : (P : Profile) (u t : ℕ) → P .mode ≤ 4 → T (faultless P)
+    → used (P .mode) ≡ suc t
+    → u < t
+    → u / 7 ≡ t / 7
+    → row (P .seeds) u ≡ row (P .seeds) t
+    → ¬ (row (P .masks) (1 + u % 7) ≡ row (P .masks) (1 + t % 7))
+last-slot P u t few r last less symbol seeds masks =
+    no-twins .allowed P .0 r .1 t (omega (arith, slots-used (P .mode) few)) (u, less, symbol, seeds, masks)

@@ -9,7 +9,7 @@ use Rattle.rules.specs.Modes.{slotBits, packetBits, slots, symbols}
 use Rattle.rules.specs.Slots.{symbolOf}
 use Rattle.rules.specs.Points.{firstPart, secondPart}
 use Rattle.rules.specs.Cells.{pointCell, gridCell}
-use Rattle.rules.specs.Profile.{inRange}
+use Rattle.rules.specs.Profile.{faultless}
 use Rattle.rules.specs.Block.{Cells, sentBit, sentCell, heard}
 use Rattle.rules.specs.Demands.{heardInPlace, sentInPlace}
 use Rattle.rules.specs.declared.Profile.{Profile}
@@ -22,7 +22,7 @@ bit-lt : (P : Profile) (d : List ℕ) (t i : ℕ) → sentBit P d t i < 2
 unfolding sentBit
 bit-lt P d t i = omega arith
 
-module _ (P : Profile) (d : List ℕ) (f s : List Float) (t : T (inRange P)) (c : Cells P d 0 (symbols (P .mode)) f s) where
+module _ (P : Profile) (d : List ℕ) (f s : List Float) (t : T (faultless P)) (c : Cells P d 0 (symbols (P .mode)) f s) where
   at : (t i : ℕ) → t < slots (P .mode) → i < 500
       → (gridCell t i < 4096 * symbols (P .mode))
       × (sentCell P d (0 + gridCell t i / 4096) (gridCell t i % 4096) ≡ sentCell P d (symbolOf t) (pointCell t i))

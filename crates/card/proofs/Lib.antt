@@ -9,6 +9,7 @@ pub mod D2
 pub mod Grid
 pub mod D3
 pub mod Weak
+pub mod Twins
 pub mod OneAnswer
 pub mod Reading
 pub mod Members

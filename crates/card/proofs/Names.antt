@@ -1,4 +1,4 @@
--- An answer names a field exactly where the profile has a number out of its range, and then it is what is at fault there: for each call's rule.
+-- An answer names a fault of the profile exactly where it has one, and then it is that: for each call's rule.
 use mathlib.Core.Path.{_≡_, ap, _∙_}
 use mathlib.Core.Bool.{Bool, true, false, not, _&&_}
 use mathlib.Core.List.{List}
@@ -6,7 +6,7 @@ use Prim.Native.Nat.{ℕ, _*_}
 use native.Mathlib.Decide.{ℕ-discrete}
 use lib.Dec.{T, eqb, ltb}
 use Rattle.rules.specs.Bits.{pick}
-use Rattle.rules.specs.Answers.{namesField}
+use Rattle.rules.specs.Answers.{namesFault}
 use Rattle.rules.specs.Profile.{only, _or_, fault}
 use Rattle.rules.specs.Block.{lengths, early, Answered}
 use Rattle.rules.specs.Demands.{Names}
@@ -54,7 +54,7 @@ abbrev pub answerOf : Receipt → Answer
 answerOf a = record { number = a .number; place = a .place }
 
 pub answered-names : (P : Profile) (marks k : ℕ) (v : ℕ → ℕ) (before after : List ℕ) (a : Receipt)
-    → ¬ T (namesField k)
+    → ¬ T (namesFault k)
     → Answered P marks (fault P or only k) v before after a
     → Names P (answerOf a)
 answered-names P marks k v before after a not r = go (ℕ-discrete ((fault P or only k) .number) 0)

@@ -11,7 +11,7 @@ use lib.Seq.{ext-getD}
 use Rattle.rules.specs.Bits.{row}
 use Rattle.rules.specs.Outer.{isK}
 use Rattle.rules.specs.Modes.{symbols}
-use Rattle.rules.specs.Profile.{inRange}
+use Rattle.rules.specs.Profile.{faultless}
 use Rattle.rules.specs.Block.{early, decided, packetPart, decidedData, byteOf, lostMask, Delivered, Judged, Answered, ReceiveRule}
 use Rattle.rules.specs.Pieces.{asking, AskRule}
 use Rattle.rules.specs.declared.Answer.{Answer}
@@ -53,7 +53,7 @@ module _ {k lost : ℕ} {kept : ℕ → ℕ → ℕ} {before : List ℕ} (t : T 
   one-delivery (Delivered.noCodeword few j l none e) (Delivered.noCodeword few' j' l' none' e') = (refl, e ∙ sym e')
 
 module _ (P : Profile) (marks : ℕ) (before : List ℕ) where
-  one-judgement : (v : ℕ → ℕ) (after after' : List ℕ) (a b : Receipt) → T (inRange P)
+  one-judgement : (v : ℕ → ℕ) (after after' : List ℕ) (a b : Receipt) → T (faultless P)
       → Judged P marks v before after a
       → Judged P marks v before after' b
       → (a ≡ b) × (after ≡ after')
@@ -76,7 +76,7 @@ module _ (P : Profile) (marks : ℕ) (before : List ℕ) where
       fits = subst (λ (l : ℕ). l < 2 ^ 16) (sym (x .lost-is)) (mask-lt (row (a .reasons)) 16)
 
   -- a refusal is silent, and else the same bits are judged
-  one-answer : (n : Answer) → (n .number ≡ 0 → T (inRange P)) → (v : ℕ → ℕ) (after after' : List ℕ) (a b : Receipt)
+  one-answer : (n : Answer) → (n .number ≡ 0 → T (faultless P)) → (v : ℕ → ℕ) (after after' : List ℕ) (a b : Receipt)
       → Answered P marks n v before after a
       → Answered P marks n v before after' b
       → (a ≡ b) × (after ≡ after')

@@ -16,7 +16,7 @@ use Rattle.rules.specs.Packet.{packetBit}
 use Rattle.rules.specs.Outer.{marked}
 use Rattle.rules.specs.Modes.{slotBits, packetBits, symbols}
 use Rattle.rules.specs.Slots.{coded}
-use Rattle.rules.specs.Profile.{inRange}
+use Rattle.rules.specs.Profile.{faultless}
 use Rattle.rules.specs.Block.{packet, scrambler, sentBit, heard, unscrambled, decided, packetPart, verdict, reason, ReceiveRule, Judged}
 use Rattle.rules.specs.Demands.{bitInPlace, heardInPlace, sentInPlace, SomePacket}
 use Rattle.rules.specs.declared.Profile.{Profile}
@@ -28,10 +28,10 @@ use Rattle.slots.proofs.Twice.{scrambling-lt, unscrambled-bit, unscrambled-twic
 use Rattle.hearing.proofs.Heard.{heard-lt}
 use Rattle.block.proofs.Passed.{early-right}
 
--- with a profile in its range, and rooms of the right lengths, receiving judges
+-- with a faultless profile, and rooms of the right lengths, receiving judges
 pub judges : {P : Profile} {marks : ℕ} (f s : List Float) {before after : List ℕ} {a : Receipt}
     → ReceiveRule P marks f s before after a
-    → T (inRange P)
+    → T (faultless P)
     → length before ≡ 122 * P .k
     → length f ≡ 4096 * symbols (P .mode)
     → length s ≡ 4096 * symbols (P .mode)

@@ -7,7 +7,7 @@ use lib.Dec.{T}
 use lib.Ieee.{Float}
 use lib.ListN.{length, replicate}
 use Rattle.rules.specs.Modes.{slotBits, slots, symbols}
-use Rattle.rules.specs.Profile.{inRange}
+use Rattle.rules.specs.Profile.{faultless}
 use Rattle.rules.specs.Answers.{hasRead}
 use Rattle.rules.specs.Block.{early, heard, decided, silence, Accepted, Answered, ReceiveRule}
 use Rattle.rules.specs.declared.Answer.{Answer}
@@ -40,7 +40,7 @@ nothing-accepted P marks n v before after a r ne =
 pub reads : (P : Profile) (marks : ℕ) (f s : List Float) (before after : List ℕ) (a : Receipt)
     → ReceiveRule P marks f s before after a
     → T (hasRead (a .number))
-    ↔ (T (inRange P) × (length before ≡ 122 * P .k) × (length f ≡ 4096 * symbols (P .mode)) × (length s ≡ 4096 * symbols (P .mode)))
+    ↔ (T (faultless P) × (length before ≡ 122 * P .k) × (length f ≡ 4096 * symbols (P .mode)) × (length s ≡ 4096 * symbols (P .mode)))
 reads P marks f s before after a r =
     let iff = early-right P (length before) (length f) (length s) (4096 * symbols (P .mode)) in (
       (λ t. iff .0 (read-first r (early-read P (length before) (length f) (length s) (4096 * symbols (P .mode))) t)),

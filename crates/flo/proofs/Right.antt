@@ -9,8 +9,8 @@ use lib.Dec.{T}
 use lib.Ieee.{Float}
 use lib.ListN.{length, replicate, take}
 use Rattle.rules.specs.Bits.{pick, row}
-use Rattle.rules.specs.Answers.{hasRead, namesField}
-use Rattle.rules.specs.Profile.{fields, blank, fault, inRange, largest, reading, refused, spelt, writing, written}
+use Rattle.rules.specs.Answers.{hasRead, namesFault}
+use Rattle.rules.specs.Profile.{fields, blank, fault, faultless, largest, reading, refused, spelt, writing, written}
 use Rattle.rules.specs.Pieces.{FeedRule, Fed, LeftBy}
 use Rattle.rules.specs.Demands.{Names}
 use Rattle.rules.specs.declared.Answer.{Answer}
@@ -25,8 +25,8 @@ use Rattle.flo.specs.Demands.{said, NamesRead, CallsRight, CallsBring}
 use Rattle.flo.proofs.Reading.{told}
 use Rattle.flo.proofs.Demands.{by-reading}
 
--- bytes that read well say a profile in range
-ranged : (profile : List ℕ) → ((i : ℕ) → row profile i < 256) → reading profile .number ≡ 0 → T (inRange (said profile))
+-- bytes that read well say a faultless profile
+ranged : (profile : List ℕ) → ((i : ℕ) → row profile i < 256) → reading profile .number ≡ 0 → T (faultless (said profile))
 ranged profile bytes z = d2 .writes (said profile) .0 (ap (λ (w : Writing). w .number) (d2 .written-read profile bytes z))
 
 -- where a refusal of reading can't have been answered, the profile was read
@@ -74,7 +74,7 @@ said-22 profile a e q = absurd (not-22 profile (sym (ap (λ (m : Answer). m .num
 left-said : (profile state : List ℕ) (n : ℕ)
     → ((i : ℕ) → row profile i < 256)
     → (n ≡ 22 → reading profile .number ≡ 0)
-    → (reading profile .number ≡ 0 → (n ≡ 22) ↔ (T (inRange (said profile)) × ¬ LeftBy (FeedRule (said profile)) state))
+    → (reading profile .number ≡ 0 → (n ≡ 22) ↔ (T (faultless (said profile)) × ¬ LeftBy (FeedRule (said profile)) state))
     → (n ≡ 22) ↔ ((reading profile .number ≡ 0) × ¬ LeftBy (FloFeed profile) state)
 left-said profile state n bytes read iff = (
   (λ e.
@@ -91,7 +91,7 @@ answers-alike : (P : Profile) (good : Bool)
 answers-alike P true = refl
 answers-alike P false = refl
 
--- where the bytes read well, the profile is in its range and no field is named
+-- where the bytes read well, the profile is faultless and no fault is named
 names-read : (profile : List ℕ) (a : Answer) {Refused : Answer → Type 0} {Rule : Profile → Type 0}
     → ((i : ℕ) → row profile i < 256)
     → AfterReading profile Refused Rule
@@ -102,15 +102,16 @@ names-read profile a bytes r unread read = go (ℕ-discrete (reading profile .nu
   where
     go : Dec (reading profile .number ≡ 0) → NamesRead profile a
     go (yes z) =
-        let none : ¬ T (namesField (a .number)) = λ t. read (r .read z) .0 .0 t (ranged profile bytes z) in
-        (((λ t. absurd (none t)), λ t. absurd (subst (λ (n : ℕ). T (namesField n)) z t)), λ t. absurd (none t))
+        let none : ¬ T (namesFault (a .number)) = λ t. read (r .read z) .0 .0 t (ranged profile bytes z) in
+        (((λ t. absurd (none t)), λ t. absurd (subst (λ (n : ℕ). T (namesFault n)) z t)), λ t. absurd (none t))
     go (no ne) =
         let e = unread (r .unread ne) in (
-          (subst (λ (m : Answer). T (namesField (m .number))) e, subst (λ (m : Answer). T (namesField (m .number))) (sym e)),
+          (subst (λ (m : Answer). T (namesFault (m .number))) e, subst (λ (m : Answer). T (namesFault (m .number))) (sym e)),
           λ _. e,
         )
 
 pub calls-right : CallsRight
+unfolding faultless
 calls-right =
     record {
       cells = λ profile d f s f' s' a r z. d2 .cells _ d f s f' s' a (passed profile r (λ q. not-refused profile a z (q .0)) .0) z;
@@ -169,7 +170,7 @@ calls-right =
       refused-alike = λ profile masks level mode k seeds floor bytes count a b t r w.
           let P = spelt fields blank profile in
           r .answer ∙ ap told (d2 .read-refused profile t)
-          ∙ answers-alike P (inRange P) ∙ ap (λ (x : Writing). record { number = x .number; place = x .place }) (w .answer);
+          ∙ answers-alike P (faultless P) ∙ ap (λ (x : Writing). record { number = x .number; place = x .place }) (w .answer);
       send-names = λ profile d f s f' s' a bytes r.
           names-read profile a bytes r (λ q. q .0) (d2 .send-names (said profile) d f s f' s' a);
       symbol-names = λ profile d symbol f s f' s' a bytes r.

@@ -12,7 +12,7 @@ use Rattle.rules.specs.Bits.{row}
 use Rattle.rules.specs.Outer.{marked}
 use Rattle.rules.specs.Modes.{symbols}
 use Rattle.rules.specs.Profile.{Shape, fields, blank, only, reading, headed, spelt, largest}
-use Rattle.rules.specs.Answers.{isNumber, isAnswer, namesField, isReason, hasRead}
+use Rattle.rules.specs.Answers.{isNumber, isAnswer, namesFault, isReason, hasRead}
 use Rattle.rules.specs.Block.{Cells}
 use Rattle.rules.specs.Pieces.{Fed, LeftBy}
 use Rattle.rules.specs.Demands.{SomePacket, Fair, BringsBack}
@@ -99,9 +99,9 @@ Fitting profile bytes firsts seconds =
     (reading profile .number ≡ 0) × (bytes ≡ 122 * said profile .k)
     × (firsts ≡ 4096 * symbols (said profile .mode)) × (seconds ≡ 4096 * symbols (said profile .mode))
 
--- an answer names a field exactly where reading the bytes does, and then it is what reading answers
+-- an answer names a fault of the profile exactly where reading the bytes does, and then it is what reading answers
 abbrev pub NamesRead : List ℕ → Answer → Type 0
-NamesRead profile a = (T (namesField (a .number)) ↔ T (namesField (reading profile .number))) × (T (namesField (a .number)) → a ≡ refusal profile)
+NamesRead profile a = (T (namesFault (a .number)) ↔ T (namesFault (reading profile .number))) × (T (namesFault (a .number)) → a ≡ refusal profile)
 
 -- The cells are those of the rules; a packet is accepted exactly when some packet has the bits; a profile is read and written by the same rules
 pub record CallsRight : Type 0 where

@@ -199,7 +199,7 @@ whole P S w =
       floor = part-read (P .floor) (S .floor) i;
     }
 
--- a value in range is whole
+-- a value all of whose fields are good is whole
 pub good-whole : (P : Profile) → Good fields P → Whole P
 good-whole P g =
     let n = slots (P .mode) in

@@ -1,4 +1,4 @@
--- What a profile in range has: a level, a mode, a level that this mode can send, a K, a floor under the level.
+-- What a faultless profile has: a level, a mode, a level that this mode can send, a K, a floor under the level.
 use mathlib.Core.Bool.{Bool, true, false, _&&_}
 use lib.Dec.{T, eqb}
 use lib.Ieee.Fits.{and-r}
@@ -6,7 +6,7 @@ use Rattle.rules.specs.Bits.{pick}
 use Rattle.rules.specs.Modes.{isMode, partBits}
 use Rattle.rules.specs.Outer.{isK}
 use Rattle.rules.specs.Profile as rule
-use Rattle.rules.specs.Profile.{isLevel, floorUnder, inRange, levelInMode, only}
+use Rattle.rules.specs.Profile.{isLevel, floorUnder, faultless, levelInMode, only}
 use Rattle.rules.specs.declared.Answer.{Answer}
 use Rattle.rules.specs.declared.Profile.{Profile}
 use Rattle.laws.specs.Decisions.{Good}
@@ -27,7 +27,7 @@ none-sends P = go (rule.sends (P .mode) (P .level))
     go true t = tt
     go false t = t
 
-pub ranges : (P : Profile) → T (inRange P) → Ranges P
+pub ranges : (P : Profile) → T (faultless P) → Ranges P
 ranges P h =
     let g = fine P h .each in
     record {
@@ -39,5 +39,5 @@ ranges P h =
     }
 
 -- so what is sent at its level decides to what was sent
-pub good-level : (P : Profile) → T (inRange P) → Good (partBits (P .mode)) (P .level) (P .floor)
+pub good-level : (P : Profile) → T (faultless P) → Good (partBits (P .mode)) (P .level) (P .floor)
 good-level P h = let r = ranges P h in (r .level, r .sends, r .floor)

@@ -15,7 +15,7 @@ use lib.Seq.{length-take-le, take-at, drop-at}
 use borrow.Author.Tests.{eq-eqb, eqb-true, ne-eqb, le-ltb, ltb-false, not-false}
 use Rattle.rules.specs.Bits.{pick, row}
 use Rattle.rules.specs.Answers.{namesField}
-use Rattle.rules.specs.Profile.{Field, _or_, faultFrom, faultOf, faulty, fieldBytes, headed, only, refused, spelt, walk}
+use Rattle.rules.specs.Profile.{Field, _or_, faultFrom, faultOf, faulty, fieldBytes, headed, only, refused, unless, spelt, walk}
 use Rattle.rules.specs.declared.Answer.{Answer}
 use Rattle.rules.specs.declared.Profile.{Profile}
 use Rattle.rules.specs.declared.Reading.{Reading}
@@ -270,6 +270,19 @@ pub table-written : (fs : List Field) (p : Profile) (s : List ℕ) → Laws fs �
     → Good fs (walk fs 0 p s .profile) × (fieldBytes fs (walk fs 0 p s .profile) ≡ s)
 table-written fs p s L O b z = written-of (read-walk fs 0 p s (walk fs 0 p s) L refl z) L O b
 
+-- ---- what reads well has right headers and lengths
+
+headed-read : {fs : List Field} {p P : Profile} {s : List ℕ} → Read fs p s P → T (headed fs p s)
+headed-read done = tt
+headed-read (next {f} {fs} {p} h l v s e m g r) =
+    let room : suc (suc (suc (f .due p))) ≤ suc (suc (suc (length (v ++ s)))) = omega (arith, length-append v s) in
+    rw (three (f .due p), take-at v s (f .due p) m, drop-at v s (f .due p) m)
+    (and-i (leb (suc (suc (suc (f .due p)))) (suc (suc (suc (length (v ++ s)))))) _ (le→leb _ _ room)
+    (and-i (eqb (f .tag) (f .tag)) _ (eq→eqb {a = f .tag} refl) (and-i (eqb (h * 256 + l) (f .due p)) _ (eq→eqb e) (headed-read r))))
+
+pub table-headed : (fs : List Field) (at : ℕ) (p : Profile) (s : List ℕ) → Laws fs → walk fs at p s .number ≡ 0 → T (headed fs p s)
+table-headed fs at p s L z = headed-read (read-walk fs at p s (walk fs at p s) L refl z)
+
 -- ---- numbers, lengths, bytes
 
 -- what holds of every profile that is read, of the refusals by a header and of every one that names a field holds of what is answered
@@ -329,10 +342,6 @@ kept-spelt : {A : Type 0} (h : Profile → A) (fs : List Field) (p : Profile) (s
 kept-spelt h [] p s k = refl
 kept-spelt h (f ∷ fs) p s k =
     kept-spelt h fs (f .with p (take (f .due p) (drop 3 s))) (drop (3 + f .due p) s) (k .1) ∙ k .0 p (take (f .due p) (drop 3 s))
-
--- a reading that is refused with an answer, unless its number is 0
-abbrev unless : Answer → Reading → Reading
-unless a r = pick (eqb (a .number) 0) r (refused a)
 
 unless-or : (a b : Answer) (r : Reading) → unless a (unless b r) ≡ unless (pick (eqb (a .number) 0) b a) r
 unless-or a b r = go (eqb (a .number) 0) refl

@@ -12,7 +12,7 @@ use lib.ListN.{length, take, drop, length-take, length-drop, drop-of-length-le}
 use lib.Seq.{drop-cons, drop-drop, getD-drop}
 use Rattle.laws.specs.Every.{every-at}
 use Rattle.rules.specs.Bits.{pick, row}
-use Rattle.rules.specs.Profile.{Field, fields, fault, faultFrom, faultOf, only, walk, reading, refused}
+use Rattle.rules.specs.Profile.{Field, fields, blank, _or_, fault, faultFrom, faultOf, twinFault, only, walk, untwinned, reading, refused, unless}
 use Rattle.rules.specs.declared.Answer.{Answer}
 use Rattle.rules.specs.declared.Profile.{Profile}
 use Rattle.rules.specs.declared.Reading.{Reading}
@@ -175,15 +175,21 @@ module _ {s : List ℕ} {p : Profile} {at i due n : ℕ} (h : Judged s p at i du
       pub taken-good : a .number ≡ 0 → record { answer = a; at = at + 3 + due; profile = q } ≡ taken i p s at
       taken-good e = sym (valued ∙ rw (eq-eqb (a .number) 0 e))
 
--- ---- reading, turn by turn: from field i on, the walk over what is left answers
+-- ---- reading, turn by turn: from field i on, the walk over what is left answers; twins come after it
+
+pub untwinned-stays : (r : Reading) → (r .number ≡ 0 → ⊥) → untwinned r ≡ r
+untwinned-stays r ne = rw (ne-eqb (r .number) 0 ne)
+
+abbrev walked : List ℕ → Reading
+walked s = walk fields 0 blank s
 
 pub record Walking (s : List ℕ) (p : Profile) (at i : ℕ) : Type 0 where
   pub within : i ≤ many
-  pub rest : reading s ≡ walk (drop i fields) at p (drop at s)
+  pub rest : walked s ≡ walk (drop i fields) at p (drop at s)
 
 module _ {s : List ℕ} {p : Profile} {at i : ℕ} (h : Walking s p at i) (more : i < many) where
   turn : let t = taken i p s at in
-      reading s ≡ pick (eqb (t .answer .number) 0) (walk (drop (i + 1) fields) (t .at) (t .profile) (drop (t .at) s)) (refused (t .answer))
+      walked s ≡ pick (eqb (t .answer .number) 0) (walk (drop (i + 1) fields) (t .at) (t .profile) (drop (t .at) s)) (refused (t .answer))
   unfolding taken
   turn =
       let f = field i in
@@ -205,49 +211,67 @@ module _ {s : List ℕ} {p : Profile} {at i : ℕ} (h : Walking s p at i) (more 
       go n false a g e f fs q end = rw e
 
   module _ {t : Step} (e : t ≡ taken i p s at) where
-    turned : reading s
+    turned : walked s
         ≡ pick (eqb (t .answer .number) 0) (walk (drop (i + 1) fields) (t .at) (t .profile) (drop (t .at) s)) (refused (t .answer))
     turned = rw e turn
 
     pub walk-refused : (t .answer .number ≡ 0 → ⊥) → refused (t .answer) ≡ reading s
-    walk-refused ne = sym (turned ∙ rw (ne-eqb (t .answer .number) 0 ne))
+    walk-refused ne =
+        let e : walked s ≡ refused (t .answer) = turned ∙ rw (ne-eqb (t .answer .number) 0 ne) in
+        sym (ap untwinned e ∙ untwinned-stays (refused (t .answer)) ne)
 
     pub walk-more : t .answer .number ≡ 0 → Walking s (t .profile) (t .at) (i + 1)
     walk-more z = record { within = omega arith; rest = turned ∙ rw (eq-eqb (t .answer .number) 0 z) }
 
 -- after the last field
 module _ {s : List ℕ} {p : Profile} {at i : ℕ} (h : Walking s p at i) (le : many ≤ i) {n : ℕ} (e : n ≡ ending (drop at s)) where
-  over : reading s ≡ pick (eqb n 0) (record { number = 0; place = 0; profile = p }) (refused (only n))
+  over : walked s ≡ pick (eqb n 0) (record { number = 0; place = 0; profile = p }) (refused (only n))
   over = h .rest ∙ rw (drop-of-length-le fields le, e) (walk-end at p (drop at s))
 
   pub walk-surplus : (n ≡ 0 → ⊥) → refused (only n) ≡ reading s
-  walk-surplus ne = sym (over ∙ rw (ne-eqb n 0 ne))
+  walk-surplus ne =
+      let e : walked s ≡ refused (only n) = over ∙ rw (ne-eqb n 0 ne) in
+      sym (ap untwinned e ∙ untwinned-stays (refused (only n)) ne)
 
-  pub walk-done : n ≡ 0 → record { number = 0; place = 0; profile = p } ≡ reading s
-  walk-done z = sym (over ∙ rw (eq-eqb n 0 z))
+  module _ (z : n ≡ 0) {a : Answer} (f : a ≡ twinFault p) where
+    found : reading s ≡ unless a (record { number = 0; place = 0; profile = p })
+    found =
+        let e : walked s ≡ record { number = 0; place = 0; profile = p } = over ∙ rw (eq-eqb n 0 z) in
+        ap untwinned e ∙ rw f
+
+    pub walk-twins : (a .number ≡ 0 → ⊥) → refused a ≡ reading s
+    walk-twins ne = sym (found ∙ rw (ne-eqb (a .number) 0 ne))
+
+    pub walk-done : a .number ≡ 0 → record { number = 0; place = 0; profile = p } ≡ reading s
+    walk-done e = sym (found ∙ rw (eq-eqb (a .number) 0 e))
 
 -- ---- what is at fault in a value, turn by turn: from field i on, whose header would begin at a byte
 
 pub record Finding (p : Profile) (at i : ℕ) : Type 0 where
   pub within : i ≤ many
   pub room : at ≤ 300 * i
-  pub rest : fault p ≡ faultFrom (drop i fields) at p
+  pub rest : faultFrom fields 0 p ≡ faultFrom (drop i fields) at p
 
 pub find-start : (p : Profile) → Finding p 0 0
-unfolding fault
 find-start p = record { within = omega arith; room = omega arith; rest = refl }
 
 module _ {p : Profile} {at i : ℕ} (h : Finding p at i) where
   module _ (lt : i < many) {a : Answer} (e : a ≡ faultOf (field i) at p) where
-    next-fault : fault p ≡ pick (eqb (a .number) 0) (faultFrom (drop (i + 1) fields) (at + 3 + field i .due p) p) a
+    next-fault : faultFrom fields 0 p ≡ pick (eqb (a .number) 0) (faultFrom (drop (i + 1) fields) (at + 3 + field i .due p) p) a
     next-fault = h .rest ∙ ap (λ (fs : List Field). faultFrom fs at p) (fields-at i lt) ∙ rw e
 
     pub find-bad : (a .number ≡ 0 → ⊥) → a ≡ fault p
-    find-bad ne = sym (next-fault ∙ rw (ne-eqb (a .number) 0 ne))
+    unfolding fault
+    find-bad ne =
+        let e : faultFrom fields 0 p ≡ a = next-fault ∙ rw (ne-eqb (a .number) 0 ne) in
+        sym (ap (λ (b : Answer). b or twinFault p) e ∙ rw (ne-eqb (a .number) 0 ne))
 
     pub find-more : a .number ≡ 0 → (due : ℕ) → due ≡ field i .due p → due < 256 → Finding p (at + 3 + due) (i + 1)
     find-more z due d l =
         record { within = omega arith; room = omega (arith, h .room); rest = next-fault ∙ rw (eq-eqb (a .number) 0 z, d) }
 
-  pub find-done : many ≤ i → only 0 ≡ fault p
-  find-done le = sym (h .rest ∙ rw (drop-of-length-le fields le))
+  pub find-done : many ≤ i → twinFault p ≡ fault p
+  unfolding fault
+  find-done le =
+      let e : faultFrom fields 0 p ≡ only 0 = h .rest ∙ rw (drop-of-length-le fields le) in
+      sym (ap (λ (b : Answer). b or twinFault p) e)

@@ -5,7 +5,7 @@ use Prim.Native.Nat.{ℕ, zero, suc, _+_, _*_, _/_, _%_, _<_, _≤_}
 use native.Mathlib.Omega.{arith}
 use lib.ListN.{length, take, drop, replicate, length-append, drop-of-length-le}
 use lib.Seq.{length-take-le, sets}
-use Rattle.rules.specs.Profile.{Field, fault, fields, fieldBytes, inRange, largest, written, writing}
+use Rattle.rules.specs.Profile.{Field, fault, fields, fieldBytes, faultless, largest, written, writing}
 use borrow.Author.Tests.{eq-eqb, ne-eqb}
 use Rattle.rules.specs.Modes.{slots}
 use Rattle.rules.specs.declared.Profile.{Profile}
@@ -82,10 +82,10 @@ module _ {s₀ : List ℕ} {p : Profile} {s : List ℕ} {at i : ℕ} (h : Storin
 pub writing-of : (p : Profile) → Shape p → (bytes : List ℕ) (count : ℕ) → fault p .number ≡ 0
     → count ≡ length (written p) → bytes ≡ sets (replicate largest 0) 0 (written p)
     → record { number = 0; place = 0; bytes = bytes; count = count } ≡ writing p
-unfolding inRange
+unfolding faultless
 writing-of p z bytes count g c e = rw (e ∙ sets-front 0 largest (written p) (written-most p z), c, eq-eqb (fault p .number) 0 g) refl
 
 pub writing-not : (p : Profile) → (fault p .number ≡ 0 → ⊥)
     → record { number = fault p .number; place = fault p .place; bytes = replicate largest 0; count = 0 } ≡ writing p
-unfolding inRange
+unfolding faultless
 writing-not p ne = rw (ne-eqb (fault p .number) 0 ne) refl

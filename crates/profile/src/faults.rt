@@ -1,11 +1,12 @@
-// What is at fault in the numbers of a field's value, with its place.
+// What is at fault in the numbers of a field's value, with its place; and twins.
 ghost use mathlib.Core.Path.{_≡_};
 ghost use Prim.Native.Nat.{_+_, _*_, _^_, _<_};
 ghost use lib.Dec.{eqb};
 ghost use Rattle.rules.specs.Bits.{pick};
-ghost use Rattle.rules.specs.Profile.{_or_, only, sends};
+ghost use Rattle.rules.specs.Profile.{_or_, only, sends, twinFault};
 ghost use Rattle.rules.specs.Modes.{isMode};
 use rules::Answer;
+use rules::Profile;
 
 // What is at fault in a single number that begins at a byte.
 pub(crate) fn single(good: bool, number: u32, at: usize) -> Answer
@@ -38,4 +39,20 @@ pub(crate) fn mode_fault(at: usize, mode: u8, level: f32) -> Answer
         };
     }
     single(ranges::sends(mode, level), 41, 38)
+}
+
+// The first slot that repeats an earlier one of its symbol.
+pub(crate) fn twin_fault(p: Profile) -> Answer
+    ensures { λ r. ⌜ r ≡ twinFault p ⌝ }
+{
+    let masks = p.masks;
+    let seeds = p.seeds;
+    let t = twins::first_repeat(p.mode, masks, seeds);
+    if t < modes::slot_count(p.mode) {
+        return Answer {
+            number: 46,
+            place: t,
+        };
+    }
+    super::only(0)
 }

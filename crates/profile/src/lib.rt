@@ -20,14 +20,14 @@ use rules::Writing;
 // The largest size of a profile.
 const LARGEST: usize = 252;
 
-// A number that names no field: the place is zero.
+// A number that names no fault of a profile: the place is zero.
 pub fn only(number: u32) -> Answer
     ensures { λ r. ⌜ r ≡ onlyOf number ⌝ }
 {
     Answer { number, place: 0 }
 }
 
-// What is at fault in a value, with its place as if it had been written out; 0 where every number is in its range.
+// What is at fault in a value, with its place as if it had been written out; 0 where nothing is.
 pub fn fault(p: Profile) -> Answer
     ensures { λ r. ⌜ r ≡ faultOf p ⌝ }
 {
@@ -41,7 +41,7 @@ pub fn fault(p: Profile) -> Answer
         at = at + 3 + fields::due(i, p);
         i += 1;
     }
-    only(0)
+    faults::twin_fault(p)
 }
 
 // All numbers zero, D and the floor +0.0.
@@ -91,6 +91,10 @@ pub fn read(bytes: &[u8]) -> Reading
     let n = header::ending(bytes, at);
     if n != 0 {
         return refused(only(n));
+    }
+    let twins = faults::twin_fault(p);
+    if twins.number != 0 {
+        return refused(twins);
     }
     Reading {
         number: 0,

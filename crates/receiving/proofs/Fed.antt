@@ -15,7 +15,7 @@ use borrow.Author.Tests.{lt-ltb, le-ltb, le-leb, lt-leb, eq-eqb, ne-eqb}
 use Rattle.rules.specs.Bits.{pick, row, bitOf}
 use Rattle.rules.specs.Modes.{partBits, symbols}
 use Rattle.rules.specs.Points.{zeroPart, part, decide}
-use Rattle.rules.specs.Profile.{only, inRange}
+use Rattle.rules.specs.Profile.{only, faultless}
 use Rattle.rules.specs.declared.Answer.{Answer}
 use Rattle.profile.proofs.AtFault.{or-zero}
 use Rattle.rules.specs.Answers.{hasRead}
@@ -174,7 +174,7 @@ module _ (P : Profile) where
       put : Put P f' s' before after
       put = r .taken refl
 
-      t : T (inRange P) × T (isState (P .mode) before) × (length f' ≡ length s') × (seen before + length f' ≤ grid)
+      t : T (faultless P) × T (isState (P .mode) before) × (length f' ≡ length s') × (seen before + length f' ≤ grid)
       t = feeding-taken P before (length f') (length s') .0 (sym (ap (λ (x : Answer). x .number) (r .answer)))
 
       -- past the seam of two lists
@@ -214,7 +214,7 @@ module _ (P : Profile) where
   -- ---- 22 exactly
 
   -- one piece from the new state on leaves a state that passes the test
-  module _ (state : List ℕ) (is : IsState (P .mode) state) (range : T (inRange P)) where
+  module _ (state : List ℕ) (is : IsState (P .mode) state) (range : T (faultless P)) where
     good : Good w (P .level) (P .floor)
     good = good-level P range
 
@@ -272,7 +272,7 @@ module _ (P : Profile) where
         }
 
   module _ (state : List ℕ) (bytes : (i : ℕ) → row state i < 256) where
-    state-fed : T (inRange P) → T (isState (P .mode) state) → LeftBy (FeedRule P) state
+    state-fed : T (faultless P) → T (isState (P .mode) state) → LeftBy (FeedRule P) state
     state-fed range t =
         let is = is-state (P .mode) state .0 t in (
           firsts state is range,
@@ -281,16 +281,16 @@ module _ (P : Profile) where
         )
 
     -- so the test passes exactly the states that pieces leave
-    left-by : T (inRange P) → T (isState (P .mode) state) ↔ LeftBy (FeedRule P) state
+    left-by : T (faultless P) → T (isState (P .mode) state) ↔ LeftBy (FeedRule P) state
     left-by range = (state-fed range, λ l. fed-state (l .2))
 
-    not-left : (T (inRange P) × ¬ T (isState (P .mode) state)) ↔ (T (inRange P) × ¬ LeftBy (FeedRule P) state)
+    not-left : (T (faultless P) × ¬ T (isState (P .mode) state)) ↔ (T (faultless P) × ¬ LeftBy (FeedRule P) state)
     not-left = ((λ q. (q .0, λ l. q .1 (left-by (q .0) .1 l))), λ q. (q .0, λ t. q .1 (left-by (q .0) .0 t)))
 
   pub feed-22 : (f s : List Float) (before after : List ℕ) (a : Answer)
       → ((i : ℕ) → row before i < 256)
       → FeedRule P f s before after a
-      → (a .number ≡ 22) ↔ (T (inRange P) × ¬ LeftBy (FeedRule P) before)
+      → (a .number ≡ 22) ↔ (T (faultless P) × ¬ LeftBy (FeedRule P) before)
   feed-22 f s before after a bytes r = rw (r .answer) (Iff·trans (feeding-22 P before (length f) (length s)) (not-left before bytes))
 
   -- a number at which no cell is read is answered exactly where it comes first
@@ -310,7 +310,7 @@ module _ (P : Profile) where
   pub ask-22 : (marks : ℕ) (state before after : List ℕ) (a : Receipt)
       → ((i : ℕ) → row state i < 256)
       → AskRule P marks state before after a
-      → (a .number ≡ 22) ↔ (T (inRange P) × ¬ LeftBy (FeedRule P) state)
+      → (a .number ≡ 22) ↔ (T (faultless P) × ¬ LeftBy (FeedRule P) state)
   ask-22 marks state before after a bytes r =
       Iff·trans (answered-as marks (asking P state (length before)) 22 _ before after a (λ t. t) r)
       (Iff·trans (asking-22 P state (length before)) (not-left state bytes))
@@ -318,7 +318,7 @@ module _ (P : Profile) where
   -- ---- what is taken, what is read, and that there is one answer
 
   pub takes : (f s f' s' : List Float) (before after : List ℕ) (a : Answer)
-      → T (inRange P)
+      → T (faultless P)
       → Fed (FeedRule P) f s before
       → FeedRule P f' s' before after a
       → (a .number ≡ 0) ↔ ((length f' ≡ length s') × (length f + length f' ≤ grid))
@@ -333,7 +333,7 @@ module _ (P : Profile) where
   pub ask-reads : (marks : ℕ) (f s : List Float) (state before after : List ℕ) (a : Receipt)
       → Fed (FeedRule P) f s state
       → AskRule P marks state before after a
-      → T (hasRead (a .number)) ↔ (T (inRange P) × (length before ≡ 122 * P .k) × (length f ≡ grid))
+      → T (hasRead (a .number)) ↔ (T (faultless P) × (length before ≡ 122 * P .k) × (length f ≡ grid))
   ask-reads marks f s state before after a h r = (
     (λ t. let q = iff .0 (read-first r (asking-not-read P state (length before)) t) in (q .0, q .2, sym (w .firsts) ∙ q .3)),
     λ q. delivered-read (r .judged (iff .1 (q .0, left-state w, q .1, w .firsts ∙ q .2)) .delivered),
@@ -345,7 +345,7 @@ module _ (P : Profile) where
       w : Left f s state
       w = fed-left h
 
-      iff : (n .number ≡ 0) ↔ (T (inRange P) × T (isState (P .mode) state) × (length before ≡ 122 * P .k) × (seen state ≡ grid))
+      iff : (n .number ≡ 0) ↔ (T (faultless P) × T (isState (P .mode) state) × (length before ≡ 122 * P .k) × (seen state ≡ grid))
       iff = asking-0 P state (length before)
 
   pub one-feeding : (f s : List Float) (before after after' : List ℕ) (a b : Answer)

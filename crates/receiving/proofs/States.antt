@@ -12,8 +12,8 @@ use lib.ListN.{length, List·getD-eq-default}
 use borrow.Author.Tests.{ltb-false, lt-ltb, le-ltb}
 use Rattle.rules.specs.Bits.{pick, row, everyBelow}
 use Rattle.rules.specs.Modes.{partBits, symbols}
-use Rattle.rules.specs.Profile.{only, _or_, fault, inRange}
-use Rattle.rules.specs.Answers.{isNumber, namesField, hasRead}
+use Rattle.rules.specs.Profile.{only, _or_, fault, faultless}
+use Rattle.rules.specs.Answers.{isNumber, namesFault, hasRead}
 use Rattle.rules.specs.Pieces.{seen, cellIn, choices, isCellByte, isState, stateBytes, feedingNumber, feeding, askingNumber, asking}
 use Rattle.rules.specs.declared.Profile.{Profile}
 use Rattle.laws.specs.Every.{every-at, every-of}
@@ -183,8 +183,8 @@ module _ (P : Profile) where
   abbrev grid : ℕ
   grid = 4096 * symbols (P .mode)
 
-  -- where 22 says something of the number after the profile's, it says so of a profile in range
-  first-fault : {A : Type 0} (n : ℕ) → (n ≡ 22) ↔ A → ((fault P or only n) .number ≡ 22) ↔ (T (inRange P) × A)
+  -- where 22 says something of the number after the profile's, it says so of a faultless profile
+  first-fault : {A : Type 0} (n : ℕ) → (n ≡ 22) ↔ A → ((fault P or only n) .number ≡ 22) ↔ (T (faultless P) × A)
   first-fault n iff =
       let first = or-number P n 22 (λ t. t) in
       ((λ e. let p = first .0 e in (p .0, iff .0 (p .1))), λ q. first .1 (q .0, iff .1 (q .1)))
@@ -194,7 +194,7 @@ module _ (P : Profile) where
     abbrev fed : ℕ
     fed = feedingNumber (P .mode) state n m
 
-    pub feeding-taken : (feeding P state n m .number ≡ 0) ↔ (T (inRange P) × T (isState (P .mode) state) × (n ≡ m) × (seen state + n ≤ grid))
+    pub feeding-taken : (feeding P state n m .number ≡ 0) ↔ (T (faultless P) × T (isState (P .mode) state) × (n ≡ m) × (seen state + n ≤ grid))
     feeding-taken =
         let first = or-number P fed 0 (λ t. t) in
         let iff = first-0 7 16 (lit< tt) (lit< tt) (isState (P .mode) state) (eqb n m) (ltb grid (seen state + n)) in (
@@ -202,20 +202,20 @@ module _ (P : Profile) where
           λ q. first .1 (q .0, iff .1 (q .1, eq→eqb (q .2), le-ltb grid (seen state + n) (q .3))),
         )
 
-    pub feeding-22 : (feeding P state n m .number ≡ 22) ↔ (T (inRange P) × ¬ T (isState (P .mode) state))
+    pub feeding-22 : (feeding P state n m .number ≡ 22) ↔ (T (faultless P) × ¬ T (isState (P .mode) state))
     feeding-22 = first-fault fed (first-22 7 16 (lit< tt) (lit< tt) (isState (P .mode) state) (eqb n m) (ltb grid (seen state + n)))
 
     pub feeding-number : T (isNumber fed)
     feeding-number = first-each 7 16 (λ k. T (isNumber k)) tt tt tt tt (isState (P .mode) state) (eqb n m) (ltb grid (seen state + n))
 
-    pub feeding-names : ¬ T (namesField fed)
-    feeding-names = first-each 7 16 (λ k. ¬ T (namesField k)) (λ t. t) (λ t. t) (λ t. t) (λ t. t) (isState (P .mode) state) (eqb n m) (ltb grid (seen state + n))
+    pub feeding-names : ¬ T (namesFault fed)
+    feeding-names = first-each 7 16 (λ k. ¬ T (namesFault k)) (λ t. t) (λ t. t) (λ t. t) (λ t. t) (isState (P .mode) state) (eqb n m) (ltb grid (seen state + n))
 
   module _ (state : List ℕ) (bytes : ℕ) where
     abbrev asked : ℕ
     asked = askingNumber (P .mode) (P .k) state bytes
 
-    pub asking-0 : (asking P state bytes .number ≡ 0) ↔ (T (inRange P) × T (isState (P .mode) state) × (bytes ≡ 122 * P .k) × (seen state ≡ grid))
+    pub asking-0 : (asking P state bytes .number ≡ 0) ↔ (T (faultless P) × T (isState (P .mode) state) × (bytes ≡ 122 * P .k) × (seen state ≡ grid))
     asking-0 =
         let first = or-number P asked 0 (λ t. t) in
         let iff = first-0 6 17 (lit< tt) (lit< tt) (isState (P .mode) state) (eqb bytes (122 * P .k)) (ltb (seen state) grid) in (
@@ -228,15 +228,15 @@ module _ (P : Profile) where
           λ q. first .1 (q .0, iff .1 (q .1, eq→eqb (q .2), le-ltb (seen state) grid (omega (arith, q .3)))),
         )
 
-    pub asking-22 : (asking P state bytes .number ≡ 22) ↔ (T (inRange P) × ¬ T (isState (P .mode) state))
+    pub asking-22 : (asking P state bytes .number ≡ 22) ↔ (T (faultless P) × ¬ T (isState (P .mode) state))
     asking-22 = first-fault asked (first-22 6 17 (lit< tt) (lit< tt) (isState (P .mode) state) (eqb bytes (122 * P .k)) (ltb (seen state) grid))
 
     pub asking-number : T (isNumber asked)
     asking-number = first-each 6 17 (λ k. T (isNumber k)) tt tt tt tt (isState (P .mode) state) (eqb bytes (122 * P .k)) (ltb (seen state) grid)
 
-    pub asking-names : ¬ T (namesField asked)
+    pub asking-names : ¬ T (namesFault asked)
     asking-names =
-        first-each 6 17 (λ k. ¬ T (namesField k)) (λ t. t) (λ t. t) (λ t. t) (λ t. t) (isState (P .mode) state) (eqb bytes (122 * P .k)) (ltb (seen state) grid)
+        first-each 6 17 (λ k. ¬ T (namesFault k)) (λ t. t) (λ t. t) (λ t. t) (λ t. t) (isState (P .mode) state) (eqb bytes (122 * P .k)) (ltb (seen state) grid)
 
     pub asking-not-read : ¬ (asking P state bytes .number ≡ 0) → ¬ T (hasRead (asking P state bytes .number))
     asking-not-read =

@@ -6,7 +6,7 @@ ghost use lib.ListN.{length};
 ghost use Rattle.rules.specs.Bits.{row};
 ghost use Rattle.rules.specs.Outer.{isK, column};
 ghost use Rattle.rules.specs.Modes.{symbols};
-ghost use Rattle.rules.specs.Profile.{inRange};
+ghost use Rattle.rules.specs.Profile.{faultless};
 ghost use Rattle.rules.specs.Block.{understood, inBlock, Delivered, Judged};
 ghost use Rattle.rules.specs.Pieces.{keptBit};
 ghost use Rattle.receiving.specs.Steps.{KeptBits};
@@ -41,7 +41,7 @@ fn deliver(k: u8, lost: u16, block: [u8; 1952], data: &mut [u8]) -> u32
 
 // Judges a block's bits, still scrambled, and delivers the data.
 fn judge(p: Profile, marks: u16, bits: [u8; 48000], data: &mut [u8]) -> Receipt
-    requires { ⌜ T (inRange p) × (length (now «data») ≡ 122 * p .k) ⌝ }
+    requires { ⌜ T (faultless p) × (length (now «data») ≡ 122 * p .k) ⌝ }
     ensures { λ r. ⌜ Judged p marks (understood p (row bits)) (now («data» .entry)) (now («data» .exit)) r ⌝ }
 {
     let mut plain = bits;
@@ -70,7 +70,7 @@ fn kept_bits(mode: u8, cells: &[u8]) -> [u8; 48000]
 
 // Judges what the cells of a whole grid decide to, and delivers the data.
 pub(crate) fn judge_cells(p: Profile, marks: u16, cells: &[u8], data: &mut [u8]) -> Receipt
-    requires { ⌜ T (inRange p) × (length (now «data») ≡ 122 * p .k) × (length (now cells) ≡ 4096 * symbols (p .mode)) ⌝ }
+    requires { ⌜ T (faultless p) × (length (now «data») ≡ 122 * p .k) × (length (now cells) ≡ 4096 * symbols (p .mode)) ⌝ }
     ensures { λ r. ⌜ Judged p marks (understood p (inBlock (p .mode) (keptBit (p .mode) (row (now (cells .entry)))))) (now («data» .entry)) (now («data» .exit)) r ⌝ }
 {
     judge(p, marks, kept_bits(p.mode, cells), data)

@@ -6,7 +6,7 @@ ghost use lib.ListN.{length};
 ghost use Rattle.rules.specs.Bits.{row};
 ghost use Rattle.rules.specs.Outer.{isK};
 ghost use Rattle.rules.specs.Modes.{slots, slotBits, symbols};
-ghost use Rattle.rules.specs.Profile.{inRange};
+ghost use Rattle.rules.specs.Profile.{faultless};
 ghost use Rattle.rules.specs.Block.{packet, sentBit, SendRule, SendSymbolRule};
 ghost use Rattle.sending.specs.Steps.{Grid};
 use block::early;
@@ -32,7 +32,7 @@ fn block_of(k: u8, data: &[u8]) -> [u8; 1952]
 
 // The block's bits, scrambled, slot after slot.
 fn sent_bits(p: Profile, data: &[u8]) -> [u8; 48000]
-    requires { ⌜ T (inRange p) × (length (now «data») ≡ 122 * p .k) ⌝ }
+    requires { ⌜ T (faultless p) × (length (now «data») ≡ 122 * p .k) ⌝ }
     ensures { λ r. ⌜ ((g : ℕ) → g < slotBits (p .mode) * slots (p .mode)
         → row r g ≡ sentBit p (now («data» .entry)) (g / slotBits (p .mode)) (g % slotBits (p .mode))) ⌝ }
 {

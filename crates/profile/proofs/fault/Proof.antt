@@ -1,4 +1,4 @@
--- At the loop's head the fields from i on decide, the first of them at a byte.
+-- At the loop's head the fields from i on decide, the first of them at a byte; after them twins.
 use mathlib.Core.Path.{_∙_}
 use Prim.Native.Nat.{_-_}
 use native.Mathlib.Omega.{arith}
@@ -45,11 +45,11 @@ loop-again c =
     let b = c .before .before .before in
     find-more (b .before .before .loop .inv) (search needs) (b .fault .ensures) (c .before .if1 .left) _ (c .due .ensures .0) (c .due .ensures .1)
 
-only-requires : tie.Need-only-requires Inv-loop μ-loop
-only-requires c κs = search needs
+twin-fault-requires : tie.Need-twin-fault-requires Inv-loop μ-loop
+twin-fault-requires c κs = search needs
 
 returns-2 : tie.Need-returns-2 Inv-loop μ-loop
-returns-2 c = c .only .ensures ∙ find-done (c .before .before .loop .inv) (search needs)
+returns-2 c = c .twin-fault .ensures ∙ find-done (c .before .before .loop .inv) (search needs)
 
 pub fault-spec : {M : Type 1} → statement M
 fault-spec =
@@ -66,5 +66,5 @@ fault-spec =
     add-i
     loop-less
     loop-again
-    only-requires
+    twin-fault-requires
     returns-2)

@@ -4,7 +4,7 @@ use Prim.Native.Nat.{_-_}
 use native.Mathlib.Omega.{arith}
 use borrow.Author.Needs.{needs}
 use Rattle.profile.specs.Fields.{many}
-use Rattle.profile.proofs.Walk.{Walking, walk-refused, walk-more, walk-surplus, walk-done}
+use Rattle.profile.proofs.Walk.{Walking, walk-refused, walk-more, walk-surplus, walk-twins, walk-done}
 use Rattle.profile.proofs.read.Statement.{statement}
 use Rattle.profile.proofs.read.Tie as tie
 
@@ -57,8 +57,23 @@ returns-2 c =
     c .refused2 .ensures
     ∙ rw (c .before .only .ensures) (walk-surplus (e .before .before .loop .inv) (search needs) (e .ending .ensures) (c .before .before .if2 .taken))
 
+twin-fault-requires : tie.Need-twin-fault-requires Inv-loop μ-loop
+twin-fault-requires c κs = tt
+
+refused-requires-3 : tie.Need-refused-requires-3 Inv-loop μ-loop
+refused-requires-3 c κs = tt
+
 returns-3 : tie.Need-returns-3 Inv-loop μ-loop
-returns-3 c = walk-done (c .before .before .before .loop .inv) (search needs) (c .before .ending .ensures) (c .if2 .left)
+returns-3 c =
+    let t = c .before .before in
+    let e = t .before .before in
+    c .refused3 .ensures
+    ∙ walk-twins (e .before .before .before .loop .inv) (search needs) (e .before .ending .ensures) (e .if2 .left) (t .before .twin-fault .ensures) (c .before .if3 .taken)
+
+returns-4 : tie.Need-returns-4 Inv-loop μ-loop
+returns-4 c =
+    let e = c .before .before .before in
+    walk-done (e .before .before .before .loop .inv) (search needs) (e .before .ending .ensures) (e .if2 .left) (c .before .before .twin-fault .ensures) (c .if3 .left)
 
 pub read-spec : {M : Type 1} → statement M
 read-spec =
@@ -78,4 +93,7 @@ read-spec =
     only-requires
     refused-requires-2
     returns-2
-    returns-3)
+    twin-fault-requires
+    refused-requires-3
+    returns-3
+    returns-4)

@@ -7,7 +7,7 @@ use lib.ListN.{length}
 use borrow.Author.Needs.{needs}
 use Rattle.rules.specs.Bits.{row}
 use Rattle.rules.specs.Modes.{symbols}
-use Rattle.rules.specs.Profile.{inRange}
+use Rattle.rules.specs.Profile.{faultless}
 use Rattle.rules.specs.Block.{understood, inBlock}
 use Rattle.rules.specs.Pieces.{isState, seen, cellIn, keptBit, asking}
 use Rattle.rules.specs.declared.Answer.{Answer}
@@ -38,7 +38,7 @@ zero c = sym (ap (λ (x : Answer). x .number) (c .before .before .asking .ensure
 -- the last cell has come
 passed : (c : tie.Else1)
     → let a = c .before .before .before .before .before .args in
-    T (inRange (a .p)) × T (isState (a .p .mode) (a .state .now)) × (length (a .«data» .now) ≡ 122 * a .p .k)
+    T (faultless (a .p)) × T (isState (a .p .mode) (a .state .now)) × (length (a .«data» .now) ≡ 122 * a .p .k)
     × (seen (a .state .now) ≡ 4096 * symbols (a .p .mode))
 passed c =
     let a = c .before .before .before .before .before .args in

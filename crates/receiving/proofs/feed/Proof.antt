@@ -6,7 +6,7 @@ use lib.Dec.{T}
 use lib.ListN.{length}
 use borrow.Author.Needs.{needs}
 use Rattle.rules.specs.Modes.{symbols}
-use Rattle.rules.specs.Profile.{inRange}
+use Rattle.rules.specs.Profile.{faultless}
 use Rattle.rules.specs.Pieces.{isState, seen}
 use Rattle.rules.specs.declared.Answer.{Answer}
 use Rattle.receiving.proofs.States.{is-state, grid-fits, feeding-taken}
@@ -19,7 +19,7 @@ feeding-requires c κs = search needs
 -- the piece is taken
 taken : (c : tie.Then1)
     → let a = c .before .before .before .before .before .before .before .args in
-    T (inRange (a .p)) × T (isState (a .p .mode) (a .state .now)) × (length (a .firsts .now) ≡ length (a .seconds .now))
+    T (faultless (a .p)) × T (isState (a .p .mode) (a .state .now)) × (length (a .firsts .now) ≡ length (a .seconds .now))
     × (seen (a .state .now) + length (a .firsts .now) ≤ 4096 * symbols (a .p .mode))
 taken c =
     let a = c .before .before .before .before .before .before .before .args in
