@@ -8,7 +8,7 @@
    - Answers, which come back through the result pointers: `place` of every call that has a profile; `lost` and `reasons` of flo_receive and
      flo_ask; `masks`, `level`, `mode`, `k`, `seeds` and `floor` of flo_read_profile; `profile` and `count` of flo_write_profile; `count` of flo_compare. They
      are written at every return, whatever they held before: on a refusal with zeros, except that flo_receive and flo_ask still say at 9 and 10 which
-     packets are lost and why, and that `place` says at 40 to 45 where the faulty number is.
+     packets are lost and why, and that `place` says at 40 to 46 what is at fault in the profile.
    - Lent memory: the cell lists of a send, the `state` of flo_feed, the `data` of flo_receive and flo_ask, the `block` of flo_parity, the
      `differences` of flo_compare. On a refusal it keeps what it held.
 
@@ -43,14 +43,19 @@ extern "C" {
 /* A thread with a stack of this many bytes can make every call. As measured on Arm, a call takes at most 152,000 of them (docs/MEASURED.md). */
 #define FLO_STACK 262144
 
-/* Every call answers one of these numbers: the first that reading the profile finds (1, 2, 3, 5, 40 to 45), then the first that fits of the call's
+/* Every call answers one of these numbers: the first that reading the profile finds (1, 2, 3, 5, 40 to 46), then the first that fits of the call's
    own, in the order in which the call's comment names them, else 0. Only FLO_DONE is a success.
 
    At 40 to 45 `place` is the byte of the profile, from 0, where the faulty number begins; of the masks and of the seeds it is the first faulty one's.
    The masks begin at bytes 3, 7, .. 31, the level at 38, mode and K are bytes 45 and 49, the seeds begin at bytes 53, 57, .. , and the floor at byte 248
-   in mode 0, 184, 152, 120, 104 in modes 1 to 4. At every other number, 0 too, `place` is zero. The profile's numbers are tested in the order of its
-   bytes; only the level is tested once more right after the mode (41, byte 38), since modes 2 to 4 also send three times the level, rounded once to a
-   float, and that has to be finite. */
+   in mode 0, 184, 152, 120, 104 in modes 1 to 4. At 46 `place` is a block slot: the first one that has the same seed and the same mask as an earlier
+   slot of its symbol. At every other number, 0 too, `place` is zero. The profile's numbers are tested in the order of its bytes; only the level is tested
+   once more right after the mode (41, byte 38), since modes 2 to 4 also send three times the level, rounded once to a float, and that has to be finite.
+   46 comes after all of these, and after bytes that are left over (1, 2).
+
+   Which slots may not be alike: block slots 7 * y to 7 * y + 6 (in the last symbol those that there are) are symbol y's, slot t has seeds[t], and its mask
+   is masks[1 + t % 7]. No two slots of one symbol may have equal seeds and equal masks. The same seed with another mask, the same mask with another
+   seed, and both the same in another symbol are fine. */
 enum flo_number {
     FLO_DONE = 0,
     FLO_CUT_IN_FIELD = 1,    /* the profile ends inside a field */
@@ -72,7 +77,8 @@ enum flo_number {
     FLO_BAD_MODE = 42,       /* the mode isn't 0 to 4 */
     FLO_BAD_K = 43,          /* K isn't 8, 12 or 14 */
     FLO_BAD_SEED = 44,       /* a seed isn't from 1 to 2^20 - 1, or an unused one isn't zero */
-    FLO_BAD_FLOOR = 45       /* the floor is neither +0.0 nor positive and finite (-0.0 is bad), or floor + floor is more than the level */
+    FLO_BAD_FLOOR = 45,      /* the floor is neither +0.0 nor positive and finite (-0.0 is bad), or floor + floor is more than the level */
+    FLO_TWIN_SLOTS = 46      /* two slots of one symbol have the same seed and the same mask */
 };
 
 /* Why flo_receive and flo_ask hold a packet for lost: the first that fits. */
@@ -139,7 +145,7 @@ uint32_t flo_ask(const uint8_t *profile, size_t profile_length, uint16_t marks, 
 uint32_t flo_read_profile(const uint8_t *profile, size_t profile_length, uint32_t masks[8], float *level, uint8_t *mode, uint8_t *k,
                           uint32_t seeds[48], float *floor, size_t *place);
 
-/* Writes a profile: 0, 40, 41, 42, 41 again, 43, 44, 45, tested in this order; the place is counted as if the value had been written out. An unused seed
+/* Writes a profile: 0, 40, 41, 42, 41 again, 43, 44, 45, 46, tested in this order; the place is counted as if the value had been written out. An unused seed
    (mode 1 uses 32 of the 48) that isn't zero is 44 too, with the place where it would stand. The bytes after the written ones are zero; on a refusal all are, and the
    count is 0. */
 uint32_t flo_write_profile(const uint32_t masks[8], float level, uint8_t mode, uint8_t k, const uint32_t seeds[48], float floor,
