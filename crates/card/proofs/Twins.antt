@@ -168,9 +168,9 @@ of-bytes : (s : List ℕ) (t : ℕ)
 of-bytes s t =
     let P = spelt fields blank s in (
       (λ e.
-      let h = twins-headed s (ap (λ (r : Reading). r .number) e) in
-      let v = of-value P t .0 (read-fault P t .0 (sym (read-refused s h) ∙ e)) in
-      (h, v .0, v .1)),
+          let h = twins-headed s (ap (λ (r : Reading). r .number) e) in
+          let v = of-value P t .0 (read-fault P t .0 (sym (read-refused s h) ∙ e)) in
+          (h, v .0, v .1)),
       λ q. read-refused s (q .0) ∙ read-fault P t .1 (of-value P t .1 (q .1, q .2)),
     )
 
