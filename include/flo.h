@@ -145,9 +145,9 @@ uint32_t flo_ask(const uint8_t *profile, size_t profile_length, uint16_t marks, 
 uint32_t flo_read_profile(const uint8_t *profile, size_t profile_length, uint32_t masks[8], float *level, uint8_t *mode, uint8_t *k,
                           uint32_t seeds[48], float *floor, size_t *place);
 
-/* Writes a profile: 0, 40, 41, 42, 41 again, 43, 44, 45, 46, tested in this order; the place is counted as if the value had been written out. An unused seed
-   (mode 1 uses 32 of the 48) that isn't zero is 44 too, with the place where it would stand. The bytes after the written ones are zero; on a refusal all are, and the
-   count is 0. */
+/* Writes a profile: 0, 40, 41, 42, 41 again, 43, 44, 45, 46, tested in this order; where the place is a byte, it is counted as if the value had been
+   written out. An unused seed (mode 1 uses 32 of the 48) that isn't zero is 44 too, with the place where it would stand. The bytes after the written
+   ones are zero; on a refusal all are, and the count is 0. */
 uint32_t flo_write_profile(const uint32_t masks[8], float level, uint8_t mode, uint8_t k, const uint32_t seeds[48], float floor,
                            uint8_t profile[252], size_t *count, size_t *place);
 

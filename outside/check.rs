@@ -10,6 +10,7 @@ mod check_profile;
 mod check_receive;
 mod check_send;
 mod check_tools;
+mod check_twins;
 mod library;
 mod plain;
 
@@ -27,6 +28,7 @@ fn main() {
     check_receive::run(&mut random, &mut tally);
     check_pieces::run(&mut random, &mut tally);
     check_floor::run(&mut random, &mut tally);
+    check_twins::run(&mut random, &mut tally);
     check_compare::run(&mut random, &mut tally);
     if !tally.report() {
         std::process::exit(1);

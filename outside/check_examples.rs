@@ -1,8 +1,8 @@
-//! Document 01's printed examples, the ends of Req 01's order, Req 06's and Req 07's figures, source document 000's points, and states, decisions and
-//! coded packets worked out by hand and by flo.py, held against the plain program before it is used as a measure.
+//! Document 01's printed examples, the ends of Req 01's order, Req 06's and Req 07's figures, Req 08's slots, source document 000's points, and states,
+//! decisions and coded packets worked out by hand and by flo.py, held against the plain program before it is used as a measure.
 
 use crate::check_tools::{Tally, LARGEST};
-use crate::plain::{self, Answer, Came, Encoder, Profile, Rate, BAD_FLOOR, CELLS, CODED, PACKET};
+use crate::plain::{self, Answer, Came, Encoder, Profile, Rate, BAD_FLOOR, CELLS, CODED, PACKET, TWIN_SLOTS};
 
 /// Compares one example and counts a difference when it doesn't come out.
 fn example<T: PartialEq + std::fmt::Debug>(tally: &mut Tally, name: &str, came: T, printed: T) {
@@ -112,7 +112,7 @@ fn coded(tally: &mut Tally) {
 fn report(tally: &mut Tally, mode: u8) {
     let mut profile = Profile { masks: [1; 8], level: 1.0, mode, k: 14, ..Profile::ZERO };
     let (slots, cells) = (profile.slots(), CELLS * profile.symbols());
-    profile.seeds[..slots].fill(1);
+    (0..slots).for_each(|t| profile.seeds[t] = 1 + t as u32);
     let mut data = vec![0; profile.data_length()];
     let (mut firsts, mut seconds) = (vec![0.0; cells], vec![0.0; cells]);
     plain::send(&profile, &data, &mut firsts, &mut seconds);
@@ -206,13 +206,55 @@ fn floors(tally: &mut Tally) {
     for (mode, (count, place)) in (0..).zip(FLOORS) {
         let mut right = Profile { masks: [1; 8], level: 1.0, mode, k: 8, floor: 0.5, ..Profile::ZERO };
         let slots = right.slots();
-        right.seeds[..slots].fill(1);
+        (0..slots).for_each(|t| right.seeds[t] = 1 + t as u32);
         let (answer, bytes, came) = plain::write_profile(&right);
         example(tally, "a profile's length", (answer.number, came, bytes.len()), (0, count, 252));
         example(tally, "its last field", bytes[count - 7..count].to_vec(), vec![6, 0, 4, 0x3F, 0, 0, 0]);
         let known = Answer { number: BAD_FLOOR, place };
         example(tally, "a bad floor's place", plain::write_profile(&Profile { floor: -0.0, ..right }).0, known);
         example(tally, "an old profile", plain::read_profile(&bytes[..count - 7]).0, 5.into());
+    }
+}
+
+/// Slots by hand: mode, the masks that are 500, the slots whose seed is 600, and the slot that is named, if one is. All other masks are 1 to 8, all
+/// other seeds 1 to 48. Slot t has mask 1 + t mod 7, so that slots 0, 7 and 14 have mask 1 and slots 6, 13 and 20 have mask 7.
+const TWINS: [(u8, &[usize], &[usize], Option<usize>); 17] = [
+    (0, &[1, 2], &[0, 1], Some(1)),
+    (0, &[1, 7], &[0, 6], Some(6)),
+    (0, &[6, 7], &[5, 6], Some(6)),
+    (0, &[7, 1], &[6, 7], None), // symbols 0 and 1
+    (0, &[1], &[0, 7, 14, 21, 28, 35, 42], None), // all symbols
+    (0, &[0, 1], &[0, 1, 2, 3, 4, 5, 6], None), // no slot has mask 0
+    (0, &[0, 7], &[5, 6, 12, 13], None),
+    (0, &[1, 2, 3, 4, 5, 6, 7], &[5], None),
+    (0, &[2, 4], &[0, 1, 2, 3, 4, 5, 6], Some(3)),
+    (0, &[1, 3, 5], &[7, 9, 11], Some(9)),
+    (0, &[5, 6], &[46, 47], Some(47)),
+    (0, &[1, 6], &[42, 47], Some(47)),
+    (1, &[3, 4], &[30, 31], Some(31)),
+    (2, &[1, 3], &[21, 23], Some(23)),
+    (3, &[1, 2], &[14, 15], Some(15)),
+    (4, &[1, 5], &[7, 11], Some(11)),
+    (4, &[5, 6], &[11], None), // slot 12 isn't there
+];
+
+fn twins(tally: &mut Tally) {
+    for (mode, masks, seeds, named) in TWINS {
+        let mut profile = Profile { masks: [1, 2, 3, 4, 5, 6, 7, 8], level: 1.0, mode, k: 12, ..Profile::ZERO };
+        (0..profile.slots()).for_each(|t| profile.seeds[t] = 1 + t as u32);
+        let (right, mut bytes, count) = plain::write_profile(&profile);
+        example(tally, "no twins", right, 0.into());
+        for &i in masks {
+            profile.masks[i] = 500;
+            bytes[3 + 4 * i..7 + 4 * i].copy_from_slice(&500u32.to_be_bytes());
+        }
+        for &t in seeds {
+            profile.seeds[t] = 600;
+            bytes[53 + 4 * t..57 + 4 * t].copy_from_slice(&600u32.to_be_bytes());
+        }
+        let known = named.map_or(0.into(), |place| Answer { number: TWIN_SLOTS, place });
+        example(tally, "twins in a value", plain::write_profile(&profile).0, known);
+        example(tally, "twins in bytes", plain::read_profile(&bytes[..count]).0, known);
     }
 }
 
@@ -252,5 +294,6 @@ pub fn run(tally: &mut Tally) {
     state(tally);
     qam_state(tally);
     floors(tally);
+    twins(tally);
     states(tally);
 }

@@ -323,22 +323,35 @@ fn random_states(random: &mut Random, here: usize) -> Vec<Vec<u8>> {
     states
 }
 
-/// Feeds any piece to a state and asks with it, both with any profile.
-pub fn strange_case(random: &mut Random, tally: &mut Tally, spare: &[f32], profile: &[u8], state: &[u8], data: usize) {
+/// Feeds any piece to a state and asks with it, both with any profile. Returns what the plain program says to either.
+pub fn strange_case(random: &mut Random, tally: &mut Tally, spare: &[f32], profile: &[u8], state: &[u8], data: usize) -> [Answer; 2] {
     let here = if let [high, low, ..] = state { u16::from_be_bytes([*high, *low]) as usize } else { 0 };
     let rest = (random.pick(&[2, 3, 4, 5, 7]) * CELLS).saturating_sub(here);
     let any = random.below(rest + 1);
     let count = random.pick(&[0, 1, 1, 2, any, any, rest, rest + 1, CELLS]);
     let other = if random.percent(80) { count } else { random.pick(&[0, 1, count + 1, rest]) };
     let piece = (&spare[..count], &spare[SPARE - other..]);
-    let mut room = lent(random, state);
-    let mut right = state.to_vec();
+    [feed_case(random, tally, profile, state, piece), ask_case(random, tally, profile, state, data)]
+}
+
+/// Feeds a piece to any state with any profile. Returns what the plain program says.
+pub fn feed_case(random: &mut Random, tally: &mut Tally, profile: &[u8], state: &[u8], piece: Piece) -> Answer {
+    let (mut room, mut right) = (lent(random, state), state.to_vec());
     let plain = plain::feed_bytes(profile, &mut right, piece.0, piece.1);
     compare_feed(tally, "any state", profile, &mut room, piece, plain, &right);
+    plain
+}
 
+/// Asks with any state and any profile. Returns what the plain program says.
+pub fn ask_case(random: &mut Random, tally: &mut Tally, profile: &[u8], state: &[u8], data: usize) -> Answer {
     let (mut room, marks) = (lent(random, state), random.next() as u16 & random.next() as u16);
-    let data = Room::new(random, data);
-    compare_ask(tally, "any state", profile, marks, &mut room, &data, |data| plain::ask_bytes(profile, marks, state, data));
+    let (data, mut plain) = (Room::new(random, data), Answer::from(0));
+    compare_ask(tally, "any state", profile, marks, &mut room, &data, |data| {
+        let asked = plain::ask_bytes(profile, marks, state, data);
+        plain = asked.answer();
+        asked
+    });
+    plain
 }
 
 /// A state that some of a random grid's cells leave.

@@ -26,7 +26,7 @@ pub enum Spot {
 use Spot::{Floor, Large, Level, Mask, Mode, Seed, K};
 
 /// The first, one between and the last of each field, and of the seeds also the last used one and the first unused one of each mode.
-const SOME: [Spot; 19] = [
+pub const SOME: [Spot; 19] = [
     Mask(0), Mask(3), Mask(7), Level, Mode, Large, K, Seed(0), Seed(11), Seed(12), Seed(15), Seed(16), Seed(23), Seed(24), Seed(31), Seed(32),
     Seed(40), Seed(47), Floor,
 ];
@@ -82,12 +82,12 @@ impl Spot {
     }
 
     /// Whether such a number is refused in that mode, if nothing else is.
-    fn is_bad_in(self, mode: u8) -> bool {
+    pub fn is_bad_in(self, mode: u8) -> bool {
         self != Large || mode >= 2
     }
 
     /// Whether the bytes of a profile that uses so many seeds have it: they have no unused ones.
-    fn is_written(self, slots: usize) -> bool {
+    pub fn is_written(self, slots: usize) -> bool {
         !matches!(self, Seed(t) if t >= slots)
     }
 
@@ -99,7 +99,7 @@ impl Spot {
         Answer { number, place: starts(slots)[self.field()] + 3 + before }
     }
 
-    fn bad(self, slots: usize) -> &'static [u32] {
+    pub fn bad(self, slots: usize) -> &'static [u32] {
         match self {
             Seed(t) if t >= slots => &BAD_UNUSED,
             Mask(_) | Seed(_) => &BAD_STATES,
@@ -116,7 +116,7 @@ impl Spot {
         self.put(slots, bytes, random.pick(self.bad(slots)));
     }
 
-    fn put(self, slots: usize, bytes: &mut [u8], bad: u32) {
+    pub fn put(self, slots: usize, bytes: &mut [u8], bad: u32) {
         let place = self.answer(slots).place;
         match self {
             Mode | K => bytes[place] = bad as u8,
@@ -124,7 +124,7 @@ impl Spot {
         }
     }
 
-    fn set(self, value: &mut Profile, bad: u32) {
+    pub fn set(self, value: &mut Profile, bad: u32) {
         match self {
             Mask(i) => value.masks[i] = bad,
             Level | Large => value.level = f32::from_bits(bad),
@@ -136,7 +136,7 @@ impl Spot {
     }
 }
 
-fn expect_value(tally: &mut Tally, known: Answer, label: &str, value: &Profile) {
+pub fn expect_value(tally: &mut Tally, known: Answer, label: &str, value: &Profile) {
     let plain = write_case(tally, label, value);
     tally.known(label, plain, known);
 }
@@ -200,7 +200,7 @@ fn together(random: &mut Random, tally: &mut Tally, right: &Profile) {
 }
 
 /// Faults of field f but for its value: the bytes, and the number that they give where nothing before is wrong.
-fn headers(bytes: &[u8], f: usize, slots: usize) -> Vec<(Vec<u8>, u32)> {
+pub fn headers(bytes: &[u8], f: usize, slots: usize) -> Vec<(Vec<u8>, u32)> {
     let (start, end) = (starts(slots)[f], *starts(slots).get(f + 1).unwrap_or(&bytes.len()));
     let cut = [(start, 5), (start + 1, 1), (start + 2, 1), (start + 3, 1), (end - 1, 1)].map(|(cut, number)| (bytes[..cut].to_vec(), number));
     let turned = [(start, 2), (start + 1, 3), (start + 2, 3)].map(|(place, number)| {
@@ -273,20 +273,22 @@ fn any_values(random: &mut Random, tally: &mut Tally, right: &Profile) {
 /// Bytes that all calls must refuse with this answer, in every call that takes them, with all else right and with all else wrong: the profile has
 /// its turn first. `right` says the lengths that are right.
 pub fn each_call(random: &mut Random, tally: &mut Tally, spare: &[f32], right: &Profile, bytes: &[u8], known: Answer) {
-    const LABEL: &str = "a bad number in a call's profile";
+    const LABEL: &str = "a call with a profile that is refused";
     let grid = any_grid(random, right.mode, right.k);
     expect(tally, known, LABEL, bytes);
+    let mut said = Vec::new();
     for lengths in [right_lengths(right, None), [0, 1, 2]] {
-        Sending::new(random, LABEL, bytes.to_vec(), None, lengths).compare(tally);
-        Sending::new(random, LABEL, bytes.to_vec(), Some(0), right_lengths(right, Some(0))).compare(tally);
-        Sending::new(random, LABEL, bytes.to_vec(), Some(usize::MAX), lengths).compare(tally);
+        said.push(Sending::new(random, LABEL, bytes.to_vec(), None, lengths).compare(tally));
+        said.push(Sending::new(random, LABEL, bytes.to_vec(), Some(0), right_lengths(right, Some(0))).compare(tally));
+        said.push(Sending::new(random, LABEL, bytes.to_vec(), Some(usize::MAX), lengths).compare(tally));
         for state in [&[0; STATE][..], &[255; STATE], &[]] {
-            strange_case(random, tally, spare, bytes, state, lengths[0]);
+            said.extend(strange_case(random, tally, spare, bytes, state, lengths[0]));
         }
         let mut receiving = grid.clone().resize(random, lengths[0], lengths[1], lengths[2]);
         receiving.bytes = bytes.to_vec();
-        receiving.compare(tally);
+        said.push(receiving.compare(tally));
     }
+    said.into_iter().for_each(|plain| tally.known(LABEL, plain, known));
 }
 
 /// A bad number in every call's profile.

@@ -1,8 +1,10 @@
-//! Profiles: right ones, damaged ones, and the tests of reading and writing them. check_places.rs has those of numbers outside their range.
+//! Profiles: right ones, damaged ones, and the tests of reading and writing them. check_places.rs has those of numbers outside their range,
+//! check_twins.rs those of slots that are alike.
 
 use crate::check_floor::{most_floor, LEAST_HALF};
 use crate::check_places::Spot;
 use crate::check_tools::{same, Call, Given, Random, Tally, LARGEST};
+use crate::check_twins::first_repeat;
 use crate::library;
 use crate::plain::{self, Answer, Profile, PROFILE};
 
@@ -61,7 +63,22 @@ pub fn random_profile(random: &mut Random, mode: u8, k: u8) -> Profile {
     profile.masks.iter_mut().for_each(|mask| *mask = random_state(random));
     let slots = profile.slots();
     profile.seeds[..slots].iter_mut().for_each(|seed| *seed = random_state(random));
+    repeat_some(random, &mut profile, slots);
+    while let Some(t) = first_repeat(&profile) {
+        profile.seeds[t] = random_state(random);
+    }
     profile
+}
+
+/// At times one mask, one seed, or the first symbol's seeds in all symbols: by themselves these are right.
+fn repeat_some(random: &mut Random, profile: &mut Profile, slots: usize) {
+    let (mask, seed) = (profile.masks[0], profile.seeds[0]);
+    match random.below(20) {
+        0 => profile.masks.fill(mask),
+        1 => profile.seeds[..slots].fill(seed),
+        2 => (7..slots).for_each(|t| profile.seeds[t] = profile.seeds[t % 7]),
+        _ => (),
+    }
 }
 
 /// Two profiles with the least level that the mode can send and with the largest.
@@ -84,7 +101,7 @@ fn damage(random: &mut Random, mut bytes: Vec<u8>) -> Vec<u8> {
     let (f, slots) = (random.below(6), (bytes.len() - WITHOUT_SEEDS) / 4);
     let starts = starts(slots);
     let (start, end) = (starts[f], *starts.get(f + 1).unwrap_or(&bytes.len()));
-    match random.below(10) {
+    match random.below(11) {
         0 => bytes.truncate(start),
         1 => bytes.truncate(start + 1 + random.below(end - start - 1)),
         2 => bytes[start] = random.pick(&[0, 1, 2, 3, 4, 5, 6, 7, 255]),
@@ -102,9 +119,20 @@ fn damage(random: &mut Random, mut bytes: Vec<u8>) -> Vec<u8> {
             let place = random.below(bytes.len());
             bytes[place] = random.next() as u8;
         }
+        9 => make_twins(random, slots, &mut bytes),
         _ => bytes[starts[2] + 3] = random.pick(&[0, 1, 2, 3, 4, 5]),
     }
     bytes
+}
+
+/// Copies the seed and the mask of a slot to a later one of its symbol. Masks begin at byte 3, seeds at byte 53.
+fn make_twins(random: &mut Random, slots: usize, bytes: &mut [u8]) {
+    let any = 1 + random.below(slots - 1);
+    let t = if any % 7 == 0 { any - 1 } else { any };
+    let u = t - 1 - random.below(t % 7);
+    for [from, to] in [[u, t].map(|t| 3 + 4 * (1 + t % 7)), [u, t].map(|t| 53 + 4 * t)] {
+        bytes.copy_within(from..from + 4, to);
+    }
 }
 
 /// A profile with one damage, at times two, or just random bytes.

@@ -7,7 +7,7 @@ use crate::check_floor::{edge_parts, ends};
 use crate::check_profile::{damaged, edge_profiles, random_profile, written, KS, MODES};
 use crate::check_send::{near, often_right};
 use crate::check_tools::{Call, Given, Kind, Random, Room, Tally, LARGEST};
-use crate::plain::{self, Block, Profile, Rate, CELLS, ENTERING, PACKET, PACKETS, POINTS};
+use crate::plain::{self, Answer, Block, Profile, Rate, CELLS, ENTERING, PACKET, PACKETS, POINTS};
 use crate::plain::{ACCEPTED, CHECK_WORD, CODED_BITS, DOUBTFUL, MARKED, RESERVED};
 use crate::library;
 
@@ -268,7 +268,8 @@ impl Receiving {
         self
     }
 
-    pub fn compare(&self, tally: &mut Tally) {
+    /// Runs both programs and compares what they say and write. Returns what the plain program says.
+    pub fn compare(&self, tally: &mut Tally) -> Answer {
         let (mut room, mut own_room) = (self.room.clone(), self.room.clone());
         let library = library::receive(&self.bytes, self.marks, &self.firsts, &self.seconds, room.lent());
         let plain = plain::receive_bytes(&self.bytes, self.marks, &self.firsts, &self.seconds, own_room.lent());
@@ -289,6 +290,7 @@ impl Receiving {
         if judged {
             tally.reasons(self.profile.mode, &plain.reasons);
         }
+        plain.answer()
     }
 }
 

@@ -2,7 +2,7 @@
 
 use crate::check_profile::{damaged, edge_profiles, random_profile, written, KS, MODES};
 use crate::check_tools::{Call, Given, Random, Room, Tally};
-use crate::plain::{Profile, BLOCK, CELLS, PACKET};
+use crate::plain::{Answer, Profile, BLOCK, CELLS, PACKET};
 use crate::{library, plain};
 
 /// What a send is given. Without a symbol number it is the whole grid.
@@ -23,8 +23,8 @@ impl Sending {
         Sending { label, profile, data, symbol, firsts, seconds }
     }
 
-    /// Runs both programs on copies of the same memory and compares all of it, guards too.
-    pub fn compare(&self, tally: &mut Tally) {
+    /// Runs both programs on copies of the same memory and compares all of it, guards too. Returns what the plain program says.
+    pub fn compare(&self, tally: &mut Tally) -> Answer {
         let (mut f, mut s) = (self.firsts.clone(), self.seconds.clone());
         let (mut own_f, mut own_s) = (self.firsts.clone(), self.seconds.clone());
         let (profile, data) = (&self.profile[..], &self.data[..]);
@@ -46,6 +46,7 @@ impl Sending {
             ("a refusal changed lent memory", library.number == 0 || (f.same(&self.firsts) && s.same(&self.seconds))),
         ];
         tally.case(call, Given::bytes(profile), self.label, library, plain, &tests);
+        plain
     }
 }
 

@@ -112,7 +112,7 @@ impl<T: Bits> Room<T> {
 }
 
 /// Slots of a block, which are also the seeds that its profile uses, in modes 0 to 4.
-const SLOTS: [usize; 5] = [48, 32, 24, 16, 12];
+pub const SLOTS: [usize; 5] = [48, 32, 24, 16, 12];
 
 /// The largest level whose triple is finite: its digits are AAAAAA, and (2^25 - 2) × 2^103 is the largest f32.
 pub const LARGEST: u32 = 0x7EAA_AAAA;
@@ -158,14 +158,14 @@ pub enum Call {
 }
 
 /// All numbers, as columns of the tally.
-const NUMBERS: [u32; 20] = [0, 1, 2, 3, 5, 6, 7, 8, 9, 10, 16, 17, 18, 22, 40, 41, 42, 43, 44, 45];
+const NUMBERS: [u32; 21] = [0, 1, 2, 3, 5, 6, 7, 8, 9, 10, 16, 17, 18, 22, 40, 41, 42, 43, 44, 45, 46];
 
 /// The numbers of a profile that is read, and of one passed as a value.
-const OF_BYTES: &[u32] = &[1, 2, 3, 5, 40, 41, 42, 43, 44, 45];
-const OF_VALUE: &[u32] = &[40, 41, 42, 43, 44, 45];
+const OF_BYTES: &[u32] = &[1, 2, 3, 5, 40, 41, 42, 43, 44, 45, 46];
+const OF_VALUE: &[u32] = &[40, 41, 42, 43, 44, 45, 46];
 
 /// Places that must come wherever a profile can be refused, with their numbers: the first, one between and the last. Of the seeds it is the first;
-/// the others, and the floor's, are each mode's own.
+/// the others, the floor's and the slots of 46 are each mode's own.
 const PLACES: [(u32, usize); 7] = [(40, 3), (40, 15), (40, 31), (41, 38), (42, 45), (43, 49), (44, 53)];
 
 /// Each call's name and the numbers that can arise in it: the profile's, and its own.
@@ -185,7 +185,9 @@ const SHOWN: usize = 10;
 
 /// Kinds of cases that must come, as lines of the tally. In comparing, the lists are those that are lent where cells differ. The parts are those of
 /// 16QAM: the doubtful ranges are that around zero, which ends at the floor, and those around 2D and -2D, which have a lower and an upper end. A level
-/// is the one that a grid is received with, where it was sent with another. The floors are those of right profiles, but for the last.
+/// is the one that a grid is received with, where it was sent with another. The floors are those of right profiles, but for the last. Twins are slots
+/// of one symbol with the same seed and the same mask, and apart are those that are just not twins; where twins stand beside another fault, that one
+/// is named.
 #[derive(Clone, Copy)]
 pub enum Kind {
     NoneDiffer,
@@ -221,8 +223,28 @@ pub enum Kind {
     MostFloor,
     FloorAtSent,
     TooLargeFloor,
+    Neighbours,
+    FirstAndLast,
+    InLastSymbol,
+    ThreeAlike,
+    TwoPairs,
+    PairAround,
+    PairsInTwoSymbols,
+    ByMasks,
+    OfFewNumbers,
+    InTwoSymbols,
+    SameSeeds,
+    SameMasks,
+    MaskZero,
+    ByOneBit,
+    Exchanged,
+    ApartOfFewNumbers,
+    BesideNumber,
+    BesideSurplus,
+    BesideEnd,
+    BesideHeader,
 }
-const KINDS: [(&str, &str); 33] = [
+const KINDS: [(&str, &str); 53] = [
     ("compare", "none differ"),
     ("compare", "all differ"),
     ("compare", "no list"),
@@ -256,6 +278,26 @@ const KINDS: [(&str, &str); 33] = [
     ("floor", "the largest"),
     ("floor", "just what was sent"),
     ("floor", "too large by a step"),
+    ("twins", "neighbours"),
+    ("twins", "a symbol's first and last"),
+    ("twins", "in the last symbol"),
+    ("twins", "three alike"),
+    ("twins", "two pairs in a symbol"),
+    ("twins", "a pair around another"),
+    ("twins", "pairs in two symbols"),
+    ("twins", "one seed, two masks equal"),
+    ("twins", "of few numbers"),
+    ("apart", "in two symbols"),
+    ("apart", "same seeds"),
+    ("apart", "same masks"),
+    ("apart", "mask 0 like another"),
+    ("apart", "by one bit"),
+    ("apart", "seed and mask exchanged"),
+    ("apart", "of few numbers"),
+    ("twins beside", "a bad number"),
+    ("twins beside", "surplus bytes"),
+    ("twins beside", "an early end"),
+    ("twins beside", "a header's fault"),
 ];
 
 #[derive(Default)]
@@ -264,6 +306,10 @@ pub struct Tally {
     came: BTreeMap<(usize, u32, usize), u64>,
     /// Which of them came in which mode, and whether with a level that is too large for modes 2 to 4.
     in_mode: BTreeSet<(usize, u8, u32, usize, bool)>,
+    /// Two slots that were made alike, with all other slots apart, while a case is about them.
+    pub pair: Option<(usize, usize)>,
+    /// These cases, by call, mode and the two slots, and whether 46 came.
+    pairs: BTreeSet<(usize, u8, usize, usize, bool)>,
     /// By mode.
     reasons: [[u64; 16]; 5],
     kinds: BTreeMap<usize, u64>,
@@ -281,6 +327,7 @@ impl Tally {
         *self.came.entry((call as usize, plain.number, plain.place)).or_default() += 1;
         if let Some(mode) = given.mode {
             self.in_mode.insert((call as usize, mode, plain.number, plain.place, given.large));
+            self.pairs.extend(self.pair.map(|(u, t)| (call as usize, mode, u, t, plain.number == 46)));
         }
         let wrong: Vec<&str> = tests.iter().filter(|t| !t.1).map(|t| t.0).collect();
         if library != plain || !wrong.is_empty() {
@@ -343,17 +390,22 @@ impl Tally {
         missing
     }
 
-    /// The same by mode: the call's own numbers, a bad seed as the last used and, in a value, as the first and the last unused one, a bad floor, and a
-    /// level that modes 0 and 1 can send, but modes 2 to 4 can't.
+    /// The same by mode: the call's own numbers, a bad seed as the last used and, in a value, as the first and the last unused one, a bad floor, each
+    /// slot that has one before it in its symbol, every two slots made alike, and a level that modes 0 and 1 can send, but modes 2 to 4 can't.
     fn missing_in(&self, c: usize, mode: u8) -> Vec<String> {
         let (name, of_profile, own) = CALLS[c];
         let after = 53 + 4 * SLOTS[mode as usize];
         let unused = if of_profile == OF_VALUE && mode > 0 { vec![after, 241] } else { vec![] };
         let came = |number: u32, place: usize| [false, true].iter().any(|&large| self.in_mode.contains(&(c, mode, number, place, large)));
         let of_profile = [(44, after - 4), (45, after + 3)].into_iter().chain(unused.into_iter().map(|place| (44, place)));
-        let due = own.iter().map(|&number| (number, 0)).chain(of_profile);
+        let slots = 0..SLOTS[mode as usize];
+        let repeats = slots.clone().filter(|t| t % 7 != 0).map(|t| (46, t));
+        let due = own.iter().map(|&number| (number, 0)).chain(of_profile).chain(repeats);
         let mut missing: Vec<String> = due.filter(|&(number, place)| !came(number, place))
             .map(|(number, place)| format!("number {number} at {place} never came from {name} in mode {mode}")).collect();
+        for (u, t) in slots.clone().flat_map(|t| (0..t).map(move |u| (u, t))).filter(|&(u, t)| !self.pairs.contains(&(c, mode, u, t, u / 7 == t / 7))) {
+            missing.push(format!("slots {u} and {t} were never made alike for {name} in mode {mode}"));
+        }
         let (number, place) = if mode < 2 { (0, 0) } else { (41, 38) };
         if !self.in_mode.contains(&(c, mode, number, place, true)) {
             missing.push(format!("a level above {LARGEST:08x} never gave {number} from {name} in mode {mode}"));
@@ -383,7 +435,7 @@ impl Tally {
             let reasons = REASONS.map(|reason| format!(" {reason}: {}", counts[reason]));
             println!("reasons in {mode} {}", reasons.join(","));
         }
-        for group in ["compare", "part", "other level", "floor"] {
+        for group in ["compare", "part", "other level", "floor", "twins", "apart", "twins beside"] {
             let kinds: Vec<String> = self.kinds().filter(|kind| kind.0 == group).map(|(_, kind, count)| format!(" {kind}: {count}")).collect();
             println!("{group:<13}{}", kinds.join(","));
         }

@@ -1,4 +1,4 @@
-"""An independent sender and receiver, written from the text of document 01 and of document 02's Req 01, 02 and 04 to 07 alone, with source document
+"""An independent sender and receiver, written from the text of document 01 and of document 02's Req 01, 02 and 04 to 08 alone, with source document
 000's tables of puncturing and of 16QAM as they are printed (a state's bytes are flo.h's), and in another way than the crates: whole lists, integers as
 polynomials, no tables shared with them. The vectors under outside/ and crates/*/stdout that say so come from here.
 
@@ -499,8 +499,23 @@ def is_sent(level, mode):
     """Whether the mode can send such a level, given by its bits: 16QAM's larger one must be finite too."""
     return not is_qam(mode) or rounded(3 * of_pattern(level)) != float("inf")
 
+def repeating_slots(masks, seeds):
+    """The block slots that have the mask and the seed of an earlier one in their symbol, by Req 08; the seeds are those in use. A symbol takes the next
+    seven of them, or what is left, and the masks from number 1 on."""
+    symbols = [list(zip(masks[1:], seeds[start:start + 7])) for start in range(0, len(seeds), 7)]
+    return [7 * y + i for y, slots in enumerate(symbols) for i, slot in enumerate(slots) if slot in slots[:i]]
+
+def twins_answer(masks, seeds):
+    """What is said where nothing else is wrong."""
+    repeating = repeating_slots(masks, seeds)
+    return (46, repeating[0]) if repeating else (0, 0)
+
+def numbers_at(data, at, count):
+    """So many numbers of four bytes, from a place on."""
+    return list(struct.unpack_from(f">{count}I", data, at))
+
 def read_profile(data):
-    """What reading these bytes answers: the number, and where the first number outside its range begins."""
+    """What reading these bytes answers: the number, and where the first number outside its range begins, or the slot that repeats one."""
     at, mode, level = 0, 0, 0
     for tag in range(1, FIELDS + 1):
         named, count, size, right = field(tag, mode, level)
@@ -526,7 +541,9 @@ def read_profile(data):
                 return 41, of_level
         at += 3 + count * size
     left = len(data) - at
-    return 0 if left == 0 else 1 if left < 3 else 2, 0
+    if left > 0:
+        return 1 if left < 3 else 2, 0
+    return twins_answer(numbers_at(data, 3, 8), numbers_at(data, 53, slots_of(mode)))
 
 def with_numbers(data, *numbers):
     """With other numbers where mode, K or a number of four bytes begins."""
@@ -564,6 +581,80 @@ def floored_profiles(good):
         most = most_floor(level)
         yield from (with_numbers(good, (38, level), (floor, bits)) for bits in (0, most - 1, most, most + 1, most + 2, 0x8000_0000))
 
+def alike(good, *groups):
+    """With the slots of each group made alike: they get its first one's seed, and all masks that these slots use become one."""
+    used = sorted({1 + t % 7 for group in groups for t in group})
+    mask, seeds = numbers_at(good, 3 + 4 * used[0], 1)[0], [(t, numbers_at(good, 53 + 4 * group[0], 1)[0]) for group in groups for t in group]
+    return with_numbers(good, *((3 + 4 * number, mask) for number in used), *((53 + 4 * t, seed) for t, seed in seeds))
+
+def with_seeds(good, seed_of):
+    """With the seed that each block slot shall have."""
+    return with_numbers(good, *((53 + 4 * t, seed_of(t)) for t in range(slots_of(good[45]))))
+
+def twin_profiles(good):
+    """Two slots alike in the first symbol, in the second and in the last, which is shorter in every mode: its first two, its last two, its first and
+    its last, two between. Then what is allowed, several alike at once, and twins beside other faults. All masks of `good` differ, and all seeds."""
+    used = slots_of(good[45])
+    last = (used - 1) // 7 * 7
+    in_symbol = [(0, 1), (0, 6), (5, 6), (2, 4), (7, 8), (9, 10), (10, 11), (12, 13), (7, 13), (last, last + 1), (last, used - 1), (used - 2, used - 1)]
+    in_two = [(6, 7), (0, 7), (5, 13), (6, 8), (0, used - 1), (last - 1, last), (last - 7, last), (1, last + 1), (last - 1, used - 1)]
+    yield from (alike(good, pair) for pairs in (in_symbol, in_two) for pair in sorted(set(pairs)) if pair[1] < used)
+    yield from twin_masks(good, last, used)
+    yield from near_twins(good)
+    for groups in (((0, 3, 5),), (range(7),), (range(used),), ((0, 6), (2, 4)), ((0, 3), (1, 2)), ((0, 2), (1, 3)), ((4, 5), (1, 6)), ((3, 4), (7, 8)),
+                   ((0, 6), (8, 9)), ((2, 3), (last, used - 1)), ((0, 7), (last, used - 1)), ((6, 7), (5, 11), (8, 9))):
+        yield alike(good, *groups)
+    yield from twins_beside(alike(good, (2, 4)), good)
+    yield from twins_beside(alike(good, (used - 2, used - 1)), good)
+
+def twin_masks(good, last, used):
+    """One seed in all slots, which is allowed while all masks differ, and also where one is mask 0's, which no slot uses; any two others that are equal
+    make twins in the first symbol. Then one seed in the last symbol alone: its masks are the first ones. Then one mask in all slots."""
+    same = with_seeds(good, lambda t: 4711)
+    equal = lambda data, a, b: with_numbers(data, (3 + 4 * b, numbers_at(data, 3 + 4 * a, 1)[0]))
+    yield same
+    yield from (equal(same, a, b) for a in range(8) for b in range(a + 1, 8))
+    in_last, there = with_seeds(good, lambda t: 4711 if t >= last else 9000 + t), used - last
+    yield in_last
+    yield from (equal(in_last, a, b) for a, b in ((there - 1, there), (1, there), (1, there + 1), (there, there + 1)))
+    one_mask = with_numbers(good, *((3 + 4 * i, 0x5A5A5) for i in range(8)))
+    yield one_mask
+    yield with_seeds(one_mask, lambda t: 1 + t % 7)
+    yield with_seeds(one_mask, lambda t: 1 + t % 6)
+    yield with_seeds(one_mask, lambda t: 1 + t % 8)
+    yield with_seeds(good, lambda t: 1 + t % 7)
+
+def near_twins(good):
+    """Allowed: slots 1 and 3 with one mask and seeds that differ in one bit, or with one seed and such masks; with mask and seed exchanged; with equal
+    sums. The largest state and the least are numbers like others. Then what shows only when another last seed is written: in mode 0 the last slot has
+    a twin then, or just its seed in the last symbol, or its seed and its mask in another one."""
+    slots = lambda mask, seed, other_mask, other_seed: with_numbers(good, (11, mask), (57, seed), (19, other_mask), (65, other_seed))
+    for bit in (0, 1, 7, 8, 15, 16, 19):
+        yield slots(0x12345, 0x54321, 0x12345, 0x54321 ^ 1 << bit)
+        yield slots(0x12345, 0x54321, 0x12345 ^ 1 << bit, 0x54321)
+    yield slots(0x12345, 0x54321, 0x54321, 0x12345)
+    yield slots(0x12345, 0x54321, 0x12346, 0x54320)
+    for mask, seed in (1, 1), (1, 2 ** 20 - 1), (2 ** 20 - 1, 1), (2 ** 20 - 1, 2 ** 20 - 1):
+        yield slots(mask, seed, mask, seed)
+    if good[45] == 0:
+        yield with_numbers(good, (11, 38 * 7), (27, 38 * 7), (53 + 4 * 43, 1))
+        yield with_numbers(good, (53 + 4 * 43, 1))
+        yield with_numbers(good, (11, 38 * 7), (27, 38 * 7), (53 + 4 * 36, 1))
+        yield with_numbers(good, (31, 38 * 7), (27, 38 * 7), (53 + 4 * 41, 1))
+
+def twins_beside(twins, good):
+    """Each other fault has its turn before twins: numbers outside their range, surplus bytes, an early end, a wrong header. The second level is right
+    in QPSK."""
+    floor = floor_field(good[45])
+    for fault in ((3, 0), (31, 2 ** 20), (38, 0), (45, 5), (38, 0x7EAA_AAAB), (49, 9), (53, 0), (61, 2 ** 20), (69, 0), (floor - 4, 2 ** 31),
+                  (floor + 3, 0x8000_0000), (floor + 3, 0x3F40_0001)):
+        yield with_numbers(twins, fault)
+    for surplus in b"\0", b"\7", b"\0\0", b"\6\0", b"\0\0\0", b"\6\0\0", b"\6\0\4\0\0\0\0", b"\7\0\4\0\0\0\0", bytes(40):
+        yield twins + surplus
+    yield from (twins[:cut] for cut in (0, 35, 50, floor - 1, floor, floor + 1, floor + 3, len(twins) - 1))
+    for at, byte in (0, 2), (50, 6), (52, 1), (floor, 7), (floor + 2, 5):
+        yield twins[:at] + bytes([byte]) + twins[at + 1:]
+
 def good_profile(mode, k):
     """Its floor is the smallest subnormal, which every level allows."""
     seeds = [2 ** 20 - 1 - 977 * t for t in range(slots_of(mode))]
@@ -592,27 +683,31 @@ def profile_table():
             yield with_numbers(good, (at, number))
         yield from faulty_profiles(good)
         yield from floored_profiles(good)
+        yield from twin_profiles(good)
         for other in MODES:
             if other != mode:
                 yield with_numbers(good_profile(other, k), (45, 5))
                 yield with_numbers(good_profile(other, k), (45, mode))
 
-def seeds_answer(seeds, mode):
-    """What writing answers to 48 seeds, where all else is right: those that the mode does not use are to be zero. The place of a seed is where the
-    profile ends if it is written with the seeds before it, and no floor."""
+def seeds_answer(masks, seeds, mode):
+    """What writing answers to 48 seeds, where all other numbers are right: those that the mode does not use are to be zero. The place of a seed is
+    where the profile ends if it is written with the seeds before it, and no floor."""
     used = slots_of(mode)
     wrong = [t for t, seed in enumerate(seeds) if (not 0 < seed < 2 ** 20 if t < used else seed != 0)]
-    return (44, len(write_profile(([1] * 8, 1.0, mode, 8, seeds[:wrong[0]])))) if wrong else (0, 0)
+    return (44, len(write_profile(([1] * 8, 1.0, mode, 8, seeds[:wrong[0]])))) if wrong else twins_answer(masks, seeds[:used])
 
 def seeds_in(data):
     """The 48 seeds of a right profile's bytes, but for the last, which is 1."""
     used = slots_of(data[45])
-    return ([int.from_bytes(data[53 + 4 * t:57 + 4 * t], "big") for t in range(used)] + [0] * (48 - used))[:47] + [1]
+    return (numbers_at(data, 53, used) + [0] * (48 - used))[:47] + [1]
 
 def profiles():
     for data in profile_table():
         number, place = read_profile(data)
-        yield (number, place, 0, 0, len(data), "same", *seeds_answer(seeds_in(data), data[45])) if number == 0 else (number, place, "")
+        if number != 0:
+            yield number, place, ""
+        else:
+            yield number, place, 0, 0, len(data), "same", *seeds_answer(numbers_at(data, 3, 8), seeds_in(data), data[45])
 
 def profiles_stdin():
     for data in profile_table():

@@ -1,4 +1,4 @@
-//! An independent sender and receiver, written from the text of document 01 and of document 02's Req 01, 02 and 04 to 07 alone, with source
+//! An independent sender and receiver, written from the text of document 01 and of document 02's Req 01, 02 and 04 to 08 alone, with source
 //! document 000's tables for puncturing and 16QAM (a state's bytes and what a list of differences holds are flo.h's) and in the ordinary way:
 //! log tables, precomputed addresses and places, one bit per byte.
 //! The outside tests compare the C library with it, and the benchmark times the two side by side.
@@ -49,6 +49,7 @@ pub const BAD_MODE: u32 = 42;
 pub const BAD_K: u32 = 43;
 pub const BAD_SEED: u32 = 44;
 pub const BAD_FLOOR: u32 = 45;
+pub const TWIN_SLOTS: u32 = 46;
 
 pub const ACCEPTED: u8 = 0;
 pub const MARKED: u8 = 11;

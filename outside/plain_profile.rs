@@ -1,11 +1,13 @@
-//! Part of plain.rs: the profile as bytes and as a value, by the text of document 01 and of document 02's Req 04, 06 and 07 alone.
+//! Part of plain.rs: the profile as bytes and as a value, by the text of document 01 and of document 02's Req 04, 06, 07 and 08 alone.
 //!
-//! A place is found in two ways that share nothing: reading knows how many bytes it has walked over, and a value's numbers are counted off.
+//! A place is found in two ways that share nothing: reading knows how many bytes it has walked over, and a value's numbers are counted off. Only at 46
+//! it is a block slot, and bytes and values share the search for it.
 
-use super::{Rate, BAD_FLOOR, BAD_K, BAD_LEVEL, BAD_MASK, BAD_MODE, BAD_SEED, DONE, ENDS_INSIDE, FIELD_DUE, OTHER_TAG, WRONG_LENGTH};
-use super::{PACKET, PACKETS, POINTS, PROFILE};
+use super::{slot_place, Rate, PACKET, PACKETS, POINTS, PROFILE};
+use super::{BAD_FLOOR, BAD_K, BAD_LEVEL, BAD_MASK, BAD_MODE, BAD_SEED, DONE, ENDS_INSIDE, FIELD_DUE, OTHER_TAG, TWIN_SLOTS, WRONG_LENGTH};
 
-/// What a call says: its number, and at 40 to 45 the byte of the profile where the faulty number begins. Every other number has place 0.
+/// What a call says: its number, and at 40 to 45 the byte of the profile where the faulty number begins, at 46 the slot that repeats an earlier one.
+/// Every other number has place 0.
 #[derive(Clone, Copy, PartialEq, Debug)]
 pub struct Answer {
     pub number: u32,
@@ -72,8 +74,28 @@ impl Profile {
         (line - self.floor, line + self.floor)
     }
 
+    /// The first slot that has the seed and the mask of an earlier one in its symbol: each symbol's slots in turn, with what was seen in it so far.
+    fn repeat(&self) -> Option<usize> {
+        let (mut seen, mut in_symbol) = (Vec::new(), 0);
+        (0..self.slots()).find(|&t| {
+            let (symbol, number) = slot_place(t);
+            if symbol != in_symbol {
+                (seen, in_symbol) = (Vec::new(), symbol);
+            }
+            let own = (self.masks[number], self.seeds[t]);
+            let is_repeat = seen.contains(&own);
+            seen.push(own);
+            is_repeat
+        })
+    }
+
+    /// 46 and the slot, where one repeats another; its turn is after all else.
+    fn twins(&self) -> Result<(), Answer> {
+        self.repeat().map_or(Ok(()), |place| Err(Answer { number: TWIN_SLOTS, place }))
+    }
+
     /// The first number outside its range, in the order of the tags, and where it would begin if the profile were written out, an unused seed as if
-    /// all 48 were; 0 when all are right. The mode's turn is also that of a level which the mode can't send.
+    /// all 48 were; then slots that are alike; 0 when all is right. The mode's turn is also that of a level which the mode can't send.
     pub fn fault(&self) -> Answer {
         let seed = |(t, &seed): (usize, &u32)| (BAD_SEED, 4, if t < self.slots() { is_state(seed) } else { seed == 0 });
         let between = [(BAD_LEVEL, 4, is_level(self.level)), (BAD_MODE, 1, is_mode(self.mode)), (BAD_K, 1, is_k(self.k))];
@@ -94,7 +116,8 @@ impl Profile {
             place += size;
         }
         let of_floor = place - 4 * (self.seeds.len() - self.slots()) + 3; // unused seeds aren't written; then come tag and length
-        if is_floor(self.floor, self.level) { DONE.into() } else { Answer { number: BAD_FLOOR, place: of_floor } }
+        let answer = demand(is_floor(self.floor, self.level), BAD_FLOOR, of_floor).and_then(|()| self.twins());
+        answer.err().unwrap_or(DONE.into())
     }
 }
 
@@ -154,7 +177,7 @@ pub fn read_fields(bytes: &[u8]) -> Result<Profile, Answer> {
     profile.floor = f32::from_bits(u32::from_be_bytes(floor.try_into().unwrap()));
     demand(is_floor(profile.floor, profile.level), BAD_FLOOR, place)?;
     match rest.len() {
-        0 => Ok(profile),
+        0 => profile.twins().map(|()| profile),
         1 | 2 => Err(ENDS_INSIDE.into()),
         _ => Err(OTHER_TAG.into()),
     }

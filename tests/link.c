@@ -11,7 +11,7 @@
 #include <string.h>
 #include <sys/mman.h>
 
-enum { MODES = 5, THREADS = 5, TURNS = 40, CELLS = FLO_MOST_SYMBOLS * FLO_SYMBOL_CELLS, PAINT = 0xA5, WRONG_PLACE = 1000 };
+enum { MODES = 5, THREADS = 5, TURNS = 40, CELLS = FLO_MOST_SYMBOLS * FLO_SYMBOL_CELLS, PAINT = 0xA5, WRONG_PLACE = 1000, SURPLUS = 8 };
 
 static int passed, failed;
 
@@ -33,7 +33,7 @@ static const struct figures {
 
 struct block {
     uint8_t mode, k;
-    uint8_t profile[FLO_MOST_PROFILE];
+    uint8_t profile[FLO_MOST_PROFILE + SURPLUS];
     size_t profile_length;
     uint8_t data[FLO_MOST_DATA];
     size_t data_length;
@@ -44,12 +44,12 @@ struct block {
     uint8_t reasons[FLO_PACKETS];
     uint8_t state[FLO_STATE];
     size_t place; /* painted before each call */
-    size_t due;   /* where the profile's first bad number begins, if there is one */
+    size_t due;   /* where the profile's first bad number begins, or the slot that has a twin before it, if there is one */
 };
 
 /* The number of a call that was given b->place; WRONG_PLACE where it didn't write there what is due. */
 static uint32_t placed(struct block *b, uint32_t number) {
-    const size_t place = b->place, due = number >= FLO_BAD_MASK && number <= FLO_BAD_FLOOR ? b->due : 0;
+    const size_t place = b->place, due = number >= FLO_BAD_MASK && number <= FLO_TWIN_SLOTS ? b->due : 0;
     memset(&b->place, PAINT, sizeof b->place);
     return place == due ? number : (uint32_t)WRONG_PLACE;
 }
@@ -534,15 +534,13 @@ static void test_refusals(int mode, int k) {
     b->profile[b->profile_length - 5] = 5;
     test("a wrong length of the floor", is_refused(b, FLO_WRONG_LENGTH));
     begin(b, mode, k, 3);
-    if (b->profile_length + 7 <= sizeof b->profile) { /* the bytes after a profile that isn't the longest are zero */
-        b->profile_length += 2;
-        test("two bytes after the floor", is_refused(b, FLO_CUT_IN_FIELD));
-        b->profile_length += 1;
-        test("three bytes after the floor", is_refused(b, FLO_WRONG_TAG));
-        memcpy(b->profile + b->profile_length - 3, "\7\0\4", 3);
-        b->profile_length += 4;
-        test("a field after the floor", is_refused(b, FLO_WRONG_TAG));
-    }
+    b->profile_length += 2;
+    test("two bytes after the floor", is_refused(b, FLO_CUT_IN_FIELD));
+    b->profile_length += 1;
+    test("three bytes after the floor", is_refused(b, FLO_WRONG_TAG));
+    memcpy(b->profile + b->profile_length - 3, "\7\0\4", 3);
+    b->profile_length += 4;
+    test("a field after the floor", is_refused(b, FLO_WRONG_TAG));
 
     begin(b, mode, k, 3);
     b->data_length -= 1;
@@ -845,6 +843,263 @@ static void test_ranges(int mode, int k) {
     }
 }
 
+/* ---- two slots of one symbol with the same seed and the same mask: slot t is in symbol t / 7 and has mask 1 + t % 7 */
+
+/* Slot t gets the seed of slot u, and its mask becomes that one's. */
+static void make_alike(struct value *v, unsigned u, unsigned t) {
+    v->seeds[t] = v->seeds[u];
+    v->masks[1 + t % 7] = v->masks[1 + u % 7];
+}
+
+static void put_number(struct block *b, size_t place, uint32_t number) {
+    unsigned i;
+    for (i = 0; i < 4; i++) b->profile[place + i] = (uint8_t)(number >> (24 - 8 * i));
+}
+
+/* Begins a block, with the value's masks and seeds put into its profile's bytes. */
+static void begin_with(struct block *b, int mode, int k, const struct value *v) {
+    unsigned i;
+    begin(b, mode, k, 17);
+    for (i = 0; i < FLO_MASKS; i++) put_number(b, 3 + 4 * (size_t)i, v->masks[i]);
+    for (i = 0; i < figures[mode].slots; i++) put_number(b, 53 + 4 * (size_t)i, v->seeds[i]);
+}
+
+static struct value value_of(int mode, int k) {
+    begin(&one, mode, k, 17);
+    return good_value(&one);
+}
+
+/* The value and its bytes are refused for slot t: by all calls, with all else right, and with all else wrong, whose turn is later. */
+static int has_twins(int mode, int k, const struct value *v, unsigned t) {
+    static const float many[CELLS + 1] = {0};
+    static const uint8_t zeros[FLO_STATE] = {0};
+    const uint32_t due = FLO_TWIN_SLOTS;
+    struct block *b = &one;
+    int refused;
+    begin(b, mode, k, 17);
+    if (!is_unwritten(b, v, due, t)) return 0;
+    begin_with(b, mode, k, v);
+    b->due = t;
+    if (!is_refused(b, due)) return 0;
+    b->data_length -= 1;
+    b->cells -= 1;
+    refused = send_block(b) == due && send_symbol(b, 99, b->firsts, b->seconds) == due && receive(b, 0) == due && ask(b, 0) == due &&
+              ask_state(b, 0, b->state, 7, b->data_length) == due && feed_lists(b, b->state, 7, many, 1, many, 2) == due;
+    b->data_length += 1;
+    refused = refused && receive(b, 0) == due && send_block(b) == due;
+    b->cells += 1;
+    refused = refused && send_symbol(b, 99, b->firsts, b->seconds) == due;
+    memset(b->state, 0, FLO_STATE); /* so that feeding and asking get further */
+    refused = refused && ask(b, 0) == due && ask_state(b, 0, b->state, FLO_STATE, b->data_length - 1) == due && feed(b, 0, 1) == due &&
+              feed_lists(b, b->state, FLO_STATE, NULL, 0, NULL, 0) == due && feed_lists(b, b->state, FLO_STATE, many, 1, many, 2) == due &&
+              feed_lists(b, b->state, FLO_STATE, many, b->cells + 1, many, b->cells + 1) == due;
+    return refused && memcmp(b->state, zeros, FLO_STATE) == 0 && is_painted(b->firsts, sizeof b->firsts) &&
+           is_painted(b->seconds, sizeof b->seconds) && is_painted(b->received, sizeof b->received);
+}
+
+/* The value is written, and read back as it was. */
+static int is_kept(struct block *b, int mode, int k, const struct value *v) {
+    struct value back;
+    begin(b, mode, k, 17);
+    memset(&back, PAINT, sizeof back);
+    return write_value(b, v) == FLO_DONE &&
+           placed(b, flo_read_profile(b->profile, b->profile_length, back.masks, &back.level, &back.mode, &back.k, back.seeds, &back.floor,
+                                      &b->place)) == FLO_DONE &&
+           memcmp(back.masks, v->masks, sizeof v->masks) == 0 && memcmp(back.seeds, v->seeds, sizeof v->seeds) == 0;
+}
+
+/* And all calls are done with it. */
+static int is_fine(int mode, int k, const struct value *v) {
+    static float firsts[FLO_SYMBOL_CELLS], seconds[FLO_SYMBOL_CELLS];
+    struct block *b = &one;
+    if (!is_kept(b, mode, k, v) || send_block(b) != FLO_DONE || receive(b, 0) != FLO_DONE || !came_back(b) || !no_answer(b)) return 0;
+    if (send_symbol(b, 1, firsts, seconds) != FLO_DONE || memcmp(firsts, b->firsts + FLO_SYMBOL_CELLS, sizeof firsts) != 0) return 0;
+    memset(b->received, PAINT, sizeof b->received);
+    return feed_all(b, 5000) && ask(b, 0) == FLO_DONE && came_back(b) && no_answer(b);
+}
+
+/* Every two slots of every mode made alike, all others apart. Of those in two symbols some are also sent and received: slots that follow one another,
+   the first and the last, and those of one number. */
+static void test_two_slots(int mode, int k) {
+    const unsigned slots = figures[mode].slots;
+    unsigned u, t;
+    for (t = 1; t < slots; t++) {
+        for (u = 0; u < t; u++) {
+            struct value v = value_of(mode, k);
+            make_alike(&v, u, t);
+            if (u / 7 == t / 7) test("two slots of a symbol alike", has_twins(mode, k, &v, t));
+            else if (u + 1 == t || (u == 0 && t + 1 == slots) || u + 7 == t) test("slots of two symbols alike", is_fine(mode, k, &v));
+            else test("slots of two symbols alike", is_kept(&one, mode, k, &v));
+        }
+    }
+}
+
+/* Two masks equal: nothing while all seeds differ. With one seed in all slots it is twins in the first symbol, unless one of the masks is mask 0, which
+   no slot has; with one seed in the last symbol only where its slots have these masks. */
+static void test_two_masks(int mode, int k) {
+    const unsigned slots = figures[mode].slots, last = slots / 7 * 7;
+    unsigned x, y, t;
+    for (y = 1; y < FLO_MASKS; y++) {
+        for (x = 0; x < y; x++) {
+            struct value v = value_of(mode, k);
+            v.masks[y] = v.masks[x];
+            test("two equal masks", is_kept(&one, mode, k, &v));
+            for (t = last; t < slots; t++) v.seeds[t] = v.seeds[last];
+            if (x > 0 && y <= slots - last) test("one seed in the last symbol", has_twins(mode, k, &v, last + y - 1));
+            else test("one seed in the last symbol, other masks", is_kept(&one, mode, k, &v));
+            for (t = 0; t < slots; t++) v.seeds[t] = v.seeds[0];
+            if (x > 0) test("one seed and two equal masks", has_twins(mode, k, &v, y - 1));
+            else test("one seed, and mask 0 like another", is_fine(mode, k, &v));
+        }
+    }
+}
+
+/* Equal seeds, equal masks, a symbol like another: all fine. So are numbers that differ in one bit, are exchanged, or have equal sums. */
+static void test_not_twins(int mode, int k) {
+    const unsigned slots = figures[mode].slots;
+    struct value v = value_of(mode, k), w;
+    unsigned i;
+    for (i = 0; i < slots; i++) v.seeds[i] = 12345;
+    test("one seed, all masks different", is_fine(mode, k, &v));
+    v = value_of(mode, k);
+    for (i = 0; i < FLO_MASKS; i++) v.masks[i] = 12345;
+    test("one mask, all seeds different", is_fine(mode, k, &v));
+    for (i = 0; i < slots; i++) v.seeds[i] = 1 + i % 7;
+    test("one mask, all symbols alike", is_fine(mode, k, &v));
+    v = value_of(mode, k);
+    make_alike(&v, 2, 5);
+    for (i = 0; i < 20; i++) {
+        w = v;
+        w.seeds[5] ^= (uint32_t)1 << i;
+        test("seeds that differ in a bit", w.seeds[5] == 0 || is_kept(&one, mode, k, &w));
+        w = v;
+        w.masks[6] ^= (uint32_t)1 << i;
+        test("masks that differ in a bit", w.masks[6] == 0 || is_kept(&one, mode, k, &w));
+    }
+    w = v;
+    w.masks[3] = w.seeds[5] = 4711;
+    w.seeds[2] = w.masks[6] = 815;
+    test("seed and mask exchanged", is_kept(&one, mode, k, &w));
+    w.masks[3] = 1000;
+    w.seeds[2] = 2001;
+    w.masks[6] = 1001;
+    w.seeds[5] = 2000;
+    test("equal sums", is_kept(&one, mode, k, &w));
+    w.masks[3] = w.masks[6] = w.seeds[2] = w.seeds[5] = 1;
+    test("the least numbers", has_twins(mode, k, &w, 5));
+    w.masks[3] = w.masks[6] = w.seeds[2] = w.seeds[5] = 1048575;
+    test("the largest numbers", has_twins(mode, k, &w, 5));
+}
+
+/* Several alike at once, all with one mask: pairs of slots, which are made alike in this order, and the slot that is named. Slot 50 stands for the last
+   one, 51 for the one before it; these two are in one symbol. */
+static const struct {
+    unsigned pairs[3][2], named;
+} several[] = {
+    {{{0, 3}, {0, 5}, {0, 5}}, 3},  {{{0, 6}, {2, 4}, {2, 4}}, 4},   {{{0, 3}, {1, 2}, {1, 2}}, 2},   {{{0, 2}, {1, 3}, {1, 3}}, 2},
+    {{{4, 5}, {1, 6}, {1, 6}}, 5},  {{{7, 8}, {3, 6}, {3, 6}}, 6},   {{{3, 4}, {8, 9}, {51, 50}}, 4}, {{{51, 50}, {7, 9}, {8, 10}}, 9},
+    {{{0, 7}, {6, 8}, {51, 50}}, 50}, {{{0, 50}, {9, 11}, {51, 6}}, 11}, {{{5, 6}, {6, 7}, {7, 8}}, 6}, {{{6, 7}, {7, 8}, {1, 9}}, 8},
+};
+
+static void test_several(int mode, int k) {
+    const unsigned slots = figures[mode].slots;
+    unsigned i, j;
+    struct value v;
+    for (i = 0; i < sizeof several / sizeof several[0]; i++) {
+        v = value_of(mode, k);
+        for (j = 0; j < FLO_MASKS; j++) v.masks[j] = 77;
+        for (j = 0; j < 3; j++) {
+            const unsigned u = several[i].pairs[j][0], t = several[i].pairs[j][1];
+            make_alike(&v, u >= 50 ? slots + 49 - u : u, t >= 50 ? slots + 49 - t : t);
+        }
+        test("several slots alike", has_twins(mode, k, &v, several[i].named >= 50 ? slots + 49 - several[i].named : several[i].named));
+    }
+    for (j = 0; j < slots; j++) v.seeds[j] = 77;
+    test("all slots alike", has_twins(mode, k, &v, 1));
+}
+
+/* Twins beside another fault: that one is named, in a value and in bytes. What is no fault in modes 0 and 1 leaves them. */
+static void test_twins_beside(int mode, int k, unsigned u, unsigned t) {
+    static const uint8_t more[3][SURPLUS] = {{6, 0, 4, 0, 0, 0, 0, 0}, {7, 0, 4, 0, 0, 0, 0, 0}, {0, 0, 0, 0, 0, 0, 0, 0}};
+    struct block *b = &one;
+    struct value twins = value_of(mode, k), v;
+    size_t i, length;
+    make_alike(&twins, u, t);
+    for (i = 0; i < FAULTS; i++) {
+        const uint32_t number = is_fault(mode, &faults[i]) ? faults[i].number : (uint32_t)FLO_TWIN_SLOTS;
+        const size_t place = is_fault(mode, &faults[i]) ? place_in(mode, &faults[i]) : t;
+        v = twins;
+        spoil_value(&v, &faults[i]);
+        begin(b, mode, k, 17);
+        test("twins and a bad number of a value", is_unwritten(b, &v, number, place));
+        begin_with(b, mode, k, &twins);
+        if (!is_written(mode, &faults[i])) continue;
+        spoil_bytes(b, &faults[i]);
+        b->due = place;
+        test("twins and a bad number of a profile", is_refused(b, number));
+    }
+    v = twins;
+    v.seeds[u] = v.seeds[t] = 0;
+    begin(b, mode, k, 17);
+    test("twins that are bad seeds", is_unwritten(b, &v, FLO_BAD_SEED, 53 + 4 * (size_t)u));
+    begin_with(b, mode, k, &v);
+    b->due = 53 + 4 * (size_t)u;
+    test("twins that are bad seeds", is_refused(b, FLO_BAD_SEED));
+    begin_with(b, mode, k, &twins);
+    length = b->profile_length;
+    for (i = 1; i <= 3 * SURPLUS; i++) {
+        const size_t surplus = (i - 1) % SURPLUS + 1;
+        memcpy(b->profile + length, more[(i - 1) / SURPLUS], SURPLUS);
+        b->profile_length = length + surplus;
+        test("twins and surplus bytes", is_refused(b, surplus < 3 ? FLO_CUT_IN_FIELD : FLO_WRONG_TAG));
+    }
+    for (i = 0; i < length; i++) {
+        const int between = i == 0 || i == 35 || i == 42 || i == 46 || i == 50 || i + 7 == length;
+        b->profile_length = i;
+        if (!between && i + 8 <= length && i % 16 != 0) continue;
+        test("twins in a profile that is cut", is_refused(b, between ? FLO_FIELD_MISSING : FLO_CUT_IN_FIELD));
+    }
+    b->profile_length = length;
+    b->profile[length - 5] = 5;
+    test("twins and the floor's length", is_refused(b, FLO_WRONG_LENGTH));
+    b->profile[length - 7] = 7;
+    test("twins and the floor's tag", is_refused(b, FLO_WRONG_TAG));
+}
+
+/* The grid of a profile whose slots u and t have one mask, received when the seeds are one too: of a packet or two other bits would come, and the data
+   would still be restored. It isn't, nor is it asked for, and a state that it would be fed to is kept. */
+static void test_twins_received(int mode, int k, unsigned u, unsigned t) {
+    struct block *b = &one;
+    struct value v = value_of(mode, k);
+    static uint8_t zeros[FLO_STATE];
+    v.masks[1 + t % 7] = v.masks[1 + u % 7];
+    begin(b, mode, k, 17);
+    test("one mask", write_value(b, &v) == FLO_DONE && send_block(b) == FLO_DONE && feed_all(b, CELLS));
+    put_number(b, 53 + 4 * (size_t)t, v.seeds[t] ^ 1);
+    test("another seed", receive(b, 0) == FLO_DONE && came_back(b) && b->lost != 0 && ask(b, 0) == FLO_DONE && came_back(b));
+    put_number(b, 53 + 4 * (size_t)t, v.seeds[u]);
+    b->due = t;
+    memset(b->received, PAINT, sizeof b->received);
+    test("the same seed", receive(b, 0) == FLO_TWIN_SLOTS && no_answer(b) && is_painted(b->received, sizeof b->received));
+    b->lost = 0xA5A5;
+    memset(b->reasons, PAINT, sizeof b->reasons);
+    test("the same seed, asked", ask(b, 0) == FLO_TWIN_SLOTS && no_answer(b) && is_painted(b->received, sizeof b->received));
+    memset(b->state, 0, FLO_STATE);
+    test("the same seed, fed", feed(b, 0, b->cells) == FLO_TWIN_SLOTS && memcmp(b->state, zeros, FLO_STATE) == 0);
+}
+
+static void test_twins(int mode, int k) {
+    const unsigned slots = figures[mode].slots;
+    test_two_slots(mode, k);
+    test_two_masks(mode, k);
+    test_not_twins(mode, k);
+    test_several(mode, k);
+    test_twins_beside(mode, k, 2, 4);
+    test_twins_beside(mode, k, slots - 2, slots - 1);
+    test_twins_received(mode, k, 0, 6);
+    test_twins_received(mode, k, slots - 2, slots - 1);
+}
+
 /* ---- two grids side by side */
 
 static struct pair {
@@ -1145,6 +1400,7 @@ int main(void) {
     int i, mode;
     test("the sizes agree", FLO_BLOCK_BYTES == FLO_PACKETS * FLO_PACKET_BYTES && FLO_MOST_DATA == 14 * FLO_PACKET_BYTES &&
                                 FLO_MOST_SYMBOLS == FLO_SYMBOLS(0) && FLO_STATE == 2 + CELLS && FLO_DIFFERENCE == 6 && FLO_MOST_PROFILE == 252);
+    test("the number of twins", FLO_TWIN_SLOTS == 46);
     for (i = 0; i < 3 * MODES; i++) {
         test_round_trip(i % MODES, ks[i / MODES]);
         test_points(i % MODES, ks[i / MODES]);
@@ -1162,6 +1418,7 @@ int main(void) {
         test_state_lines(mode, ks[mode % 3]);
         test_floors(mode, ks[mode % 3]);
         test_ranges(mode, ks[mode % 3]);
+        test_twins(mode, ks[mode % 3]);
     }
     test_compare();
     test_patterns();
