@@ -124,13 +124,27 @@ pub(crate) fn spelt(bytes: &[u8]) -> u32 {
     }
 }
 
-// The level's pattern in a profile's bytes; zero where they end before it does.
-pub(crate) fn level(bytes: &[u8]) -> u32 {
-    if bytes.len() < 42 {
+// The number of the first four bytes; zero where there are fewer.
+fn first_four(bytes: &[u8]) -> u32 {
+    if bytes.len() < 4 {
         0
     } else {
-        spelt(&bytes[38..42])
+        spelt(&bytes[0..4])
     }
+}
+
+// The number of four bytes that begins at a place; zero where the bytes end before it does.
+pub(crate) fn four_at(bytes: &[u8], place: usize) -> u32 {
+    if bytes.len() < place {
+        0
+    } else {
+        first_four(&bytes[place..])
+    }
+}
+
+// The level's pattern in a profile's bytes.
+pub(crate) fn level(bytes: &[u8]) -> u32 {
+    four_at(bytes, 38)
 }
 
 // The value of a profile's field: an f32 by its pattern.

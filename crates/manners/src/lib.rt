@@ -1,7 +1,8 @@
-// How the programs speak, and what they share on their input and output. What each writes on standard error has one of six forms, by which `bin/` knows the exit status:
+// How the programs speak, and what they share on their input and output. What each writes on standard error has one of seven forms, by which `bin/` knows the exit status:
 //
 //     N words                          a refusal: the documents' number, and what it means
 //     N at byte P: words               a refusal that names a field of the profile's bytes: which of its numbers, what it is, what is allowed
+//     N at slot T: words               a refusal that names a block slot of the profile: which earlier one it repeats, and in what
 //     profile_text: line N: words      a refused text; `profile_text: text: words` where no line is at fault
 //     NAME: cannot words               trouble: input that can't be read, output that can't be written
 //     usage: words                     words that the program does not take
@@ -10,6 +11,7 @@
 // A program that did what was asked says nothing else there.
 pub mod field;
 pub mod put;
+pub mod twin;
 
 use libc::PATH_MAX;
 use libc::STDERR_FILENO;
@@ -200,6 +202,11 @@ fn meaning(out: &mut [u8], at: usize, number: u32) -> usize {
         43 => put::bytes(out, at, b"K is outside its range"),
         44 => put::bytes(out, at, b"a seed is outside its range"),
         45 => put::bytes(out, at, b"the floor is outside its range"),
+        46 => put::bytes(
+            out,
+            at,
+            b"two slots of one symbol have the same seed and the same mask",
+        ),
         _ => put::bytes(out, at, b"unknown number"),
     }
 }
@@ -230,9 +237,9 @@ pub fn refuse(number: u32) {
 }
 
 // The start of a refusal's line that names a place.
-fn placed(out: &mut [u8], number: u32, place: u64) -> usize {
+fn placed(out: &mut [u8], number: u32, what: &[u8], place: u64) -> usize {
     let at = put::decimal(out, 0, number as u64);
-    let at = counted(out, at, b" at byte ", place);
+    let at = counted(out, at, what, place);
     put::bytes(out, at, b": ")
 }
 
@@ -244,16 +251,28 @@ fn refuse_at(number: u32, place: usize, bytes: &[u8], level: u32) {
     }
     let x = field::spelt(&bytes[0..n]);
     let mut out = [0u8; ROOM];
-    let at = placed(&mut out, number, place as u64);
+    let at = placed(&mut out, number, b" at byte ", place as u64);
     let at = field::before(&mut out, at, number, field::index(number, place));
     let at = field::value(&mut out, at, number, x);
     let at = field::after_value(&mut out, at, number, x, level);
     put::say(&mut out, at);
 }
 
-// A refusal of a profile's bytes: where it names a field, by what stands at the place.
+// A refusal of a profile's bytes for twins: the place is the later slot.
+fn refuse_twins(number: u32, slot: usize, bytes: &[u8]) {
+    let masks = twin::masks_of(bytes);
+    let seeds = twin::seeds_of(bytes);
+    let mut out = [0u8; ROOM];
+    let at = placed(&mut out, number, b" at slot ", slot as u64);
+    let at = twin::words(&mut out, at, masks, seeds, slot);
+    put::say(&mut out, at);
+}
+
+// A refusal of a profile's bytes: where it names a field, by what stands at the place; where it names a slot, the place is no byte.
 pub fn refuse_profile(number: u32, place: usize, bytes: &[u8]) {
-    if place <= bytes.len() {
+    if number == 46 {
+        refuse_twins(number, place, bytes);
+    } else if place <= bytes.len() {
         refuse_at(number, place, &bytes[place..], field::level(bytes));
     } else {
         refuse(number);

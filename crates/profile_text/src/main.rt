@@ -12,9 +12,10 @@
 //     seeds 1 2 3                 48, 32, 24, 16 and 12 in modes 0 to 4, from 1 to 1048575; more lines with seeds go on
 //     floor 0.05                  0, or a decimal number or pattern as for D; floor + floor is at most D
 //
+// Block slot t is in symbol t div 7; its seed is number t from 0, its mask number 1 + t mod 7. No two slots of one symbol may have both alike.
 // Lines end as any editor ends them, and a byte order mark may stand before the text. A bad text, its first mistake, or a refused profile
 // gives one line on standard error and nothing on standard output. The bytes always come from profile::write, and what a profile says from
-// profile::read: the ranges are tested here for the messages' sake.
+// profile::read: the ranges are tested here for the messages' sake, twins only there.
 mod draft;
 mod fields;
 mod number;
@@ -52,9 +53,13 @@ fn asked() -> Command {
     Command::Neither
 }
 
-// The profile of a text without mistakes.
+// The profile of a text without mistakes in its lines; twins are found last of all.
 fn write_profile(d: Draft) {
-    let w = profile::write(draft::profile_of(d));
+    let p = draft::profile_of(d);
+    let w = profile::write(p);
+    if w.number == 46 {
+        return say::twins(p, w.place);
+    }
     if w.number != 0 {
         return manners::refuse(w.number);
     }
@@ -126,8 +131,11 @@ A text has one field a line, in any order; # starts a comment, blank lines are a
     seeds 1 2 3                 48, 32, 24, 16 and 12 in modes 0 to 4, from 1 to 1048575; more lines with seeds go on
     floor 0.05                  0, or a decimal number or pattern as for D; floor + floor is at most D
 
+Block slot t is in symbol t div 7; its seed is number t from 0, its mask number 1 + t mod 7. No two slots of one symbol may have both alike.
+
 Standard error    a refused text: its first mistake. A refused profile: its number, and what it means, with the byte where a value is
-                  outside its range. Trouble: what can't be read or written. Nothing is then written to standard output.
+                  outside its range, or the slot that has seed and mask of an earlier one in its symbol.
+                  Trouble: what can't be read or written. Nothing is then written to standard output.
 
 bin/profile_text ends with 0 when it is done, 1 when it refused, 2 for a wrong use or trouble.
 ",

@@ -6,6 +6,8 @@ use super::fields;
 use super::show;
 use manners::field;
 use manners::put;
+use manners::twin;
+use rules::Profile;
 
 // Room for a message.
 const ROOM: usize = 256;
@@ -185,6 +187,16 @@ pub fn mistake(n: usize, d: Draft, s: &[u8]) {
     let mut out = [0u8; ROOM];
     let at = place(&mut out, n);
     let at = what(&mut out, at, d, d.field, shown(s, d.from, d.to));
+    put::say(&mut out, at);
+}
+
+// Says that a slot repeats an earlier one of its symbol: no line of the text is at fault by itself.
+pub fn twins(p: Profile, slot: usize) {
+    let masks = p.masks;
+    let seeds = p.seeds;
+    let mut out = [0u8; ROOM];
+    let at = place(&mut out, 0);
+    let at = twin::words(&mut out, at, masks, seeds, slot);
     put::say(&mut out, at);
 }
 

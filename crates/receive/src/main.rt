@@ -294,7 +294,8 @@ Standard input    two bytes of profile length, the profile, a mark mask of two b
 Standard output   17 lines: the number and the lost mask, then each packet and the reason why it was lost (0: it was not), all decimal.
 FILE              at number 0 the data, 122 x K bytes. It is made beside FILE and takes its name when it is whole.
                   For a name that begins with a dash say ./-name.
-Standard error    what a number other than 0 means, with the byte of the profile where a value is outside its range.
+Standard error    what a number other than 0 means, with the byte of the profile where a value is outside its range, or the slot that
+                  has seed and mask of an earlier one in its symbol.
                   Trouble: what can't be read or written.
 
 bin/receive ends with 0 when the number is 0, 1 at any other number, 2 for a wrong use or trouble.

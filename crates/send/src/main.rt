@@ -114,7 +114,8 @@ Standard input    two bytes of profile length, the profile, the data (122 x K by
                   profile_text makes a profile.
 Standard output   for each symbol (7, 5, 4, 3 and 2 in modes 0 to 4) its 4096 first parts, then its 4096 second parts, each an f32 of four
                   bytes, high byte first. A refusal writes nothing there.
-Standard error    a refusal: its number, and what it means, with the byte of the profile where a value is outside its range.
+Standard error    a refusal: its number, and what it means, with the byte of the profile where a value is outside its range, or the slot
+                  that has seed and mask of an earlier one in its symbol.
                   Trouble: what can't be read or written.
 
 bin/send ends with 0 when it is done, 1 when it refused, 2 for a wrong use or trouble.
