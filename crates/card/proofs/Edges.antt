@@ -1,6 +1,6 @@
 -- The demands at the ends of their bounds, by numbers written out here: the last packet, byte, bit and cell, three wrong bits, as many lost as there is
 -- parity, and one more. A demand with a narrower bound would not give these.
-use mathlib.Core.Path.{_≡_, refl, sym, ap, ap₂, _∙_, subst}
+use mathlib.Core.Path.{_≡_, refl, sym, ap, ap₂, _∙_}
 use mathlib.Core.Bool.{true}
 use mathlib.Core.List.{List, [], _∷_}
 use mathlib.Core.Logic.{_⊎_, _↔_}

@@ -1,15 +1,14 @@
 -- The first twin of a slot, found from its symbol's first slot on, and the first slot that repeats an earlier one.
-use mathlib.Core.Path.{_≡_, sym, ap, _∙_}
+use mathlib.Core.Path.{_≡_, ap, _∙_}
 use mathlib.Core.Bool.{Bool, true, false, _&&_}
 use mathlib.Core.List.{List}
 use Prim.Native.Nat.{ℕ, _+_, _-_, _%_, _<_, _≤_}
 use native.Mathlib.Decide.{ℕ-discrete}
 use native.Mathlib.Omega.{arith}
 use borrow.Author.Tests.{eq-eqb, ne-eqb, lt-ltb, le-ltb}
-use lib.Dec.{ltb}
 use Rattle.rules.specs.Profile.{alike, areTwins, earliest, repeats, firstRepeat}
 use Rattle.rules.specs.Slots.{symbolOf}
-use Rattle.laws.specs.First.{First, first-is}
+use Rattle.laws.specs.First.{first-is}
 
 module _ (masks seeds : List ℕ) where
   -- ---- turn by turn: u is of t's symbol, and no slot before it is t's twin

@@ -1,5 +1,5 @@
 -- The seeds differ, or the masks decide.
-use mathlib.Core.Path.{_≡_, refl, sym, _∙_}
+use mathlib.Core.Path.{refl}
 use borrow.Author.Needs.{needs}
 use borrow.Author.Tests.{eq-eqb, ne-eqb}
 use Rattle.twins.proofs.are_alike.Statement.{statement}
