@@ -190,7 +190,7 @@ pub record CallsRight : Type 0 where
       → FloReadProfile profile masks level mode k seeds floor a
       → (let P = spelt fields blank profile in FloWriteProfile (P .masks) (P .level) (P .mode) (P .k) (P .seeds) (P .floor) bytes count b)
       → a ≡ b
-  -- 40 to 45 are those of reading, with their places
+  -- 40 to 46 are those of reading, with their places
   pub send-names : (profile d : List ℕ) (f s f' s' : List Float) (a : Answer)
       → ((i : ℕ) → row profile i < 256)
       → FloSend profile d f s f' s' a

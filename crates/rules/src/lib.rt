@@ -36,7 +36,7 @@ pub struct Profile {
 }
 
 // What a call answers: a number of the table, and the place. At 40 to 45, which name a field of the profile, that is the byte where the field's
-// first faulty number begins; at every other number it is zero.
+// first faulty number begins; at 46 the block slot that repeats an earlier one; at every other number it is zero.
 pub struct Answer {
     pub number: u32,
     pub place: usize,
