@@ -76,12 +76,12 @@ fn entry(room: &mut [u8]) -> bool
     true
 }
 
-// All entries.
+// All entries, of a table that has at most so many.
 fn table(room: &mut [u8])
     requires { ⌜ length (now room) ≡ 512 ⌝ }
 {
     let mut turn: usize = 0;
-    while turn < 4096 {
+    while turn < 16_384 {
         if !entry(room) {
             return;
         }

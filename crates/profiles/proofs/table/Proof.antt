@@ -8,10 +8,10 @@ use Rattle.profiles.proofs.table.Statement.{statement}
 use Rattle.profiles.proofs.table.Tie as tie
 
 abbrev Inv-loop : tie.InvT-loop
-Inv-loop room₀ turn₀ room turn = (length room ≡ length room₀) × (turn ≤ 4096)
+Inv-loop room₀ turn₀ room turn = (length room ≡ length room₀) × (turn ≤ 16384)
 
 abbrev μ-loop : tie.MeasureT-loop
-μ-loop room₀ turn₀ room turn = 4096 - turn
+μ-loop room₀ turn₀ room turn = 16384 - turn
 
 loop-holds : tie.Need-loop-holds Inv-loop μ-loop
 loop-holds c = search needs
