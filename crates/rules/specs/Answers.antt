@@ -17,7 +17,7 @@ abbrev pub namesFault : ℕ → Bool
 namesFault n = namesField n || eqb n 46
 
 -- 0 done, 1 to 3 and 5 to 10 the refusals; and those of document 02: 16 too many cells, 17 the last cell not yet seen, 18 the four lists not all of one
--- length, 22 no such state, and 40 to 46, which stand where 4 stood
+-- length, 22 no such state, 40 to 45, which stand where 4 stood, and 46, which comes after them
 abbrev pub isNumber : ℕ → Bool
 isNumber n = leb n 3 || leb 5 n && leb n 10 || leb 16 n && leb n 18 || eqb n 22 || namesFault n
 
