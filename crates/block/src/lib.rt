@@ -1,4 +1,6 @@
 // What sending and receiving share: the numbers that come first, and a whole block's scrambling.
+#![tactic(auto)]
+
 ghost use Rattle.std.specs.Prelude.{◌≡◌, ◌*◌, ◌≤◌, length};
 ghost use Rattle.rules.specs.Bits.{row};
 ghost use Rattle.rules.specs.Modes.{slot_bits};

@@ -1,4 +1,6 @@
 // Points and cells: what each cell carries, and one symbol's cells written from a block's bits.
+#![tactic(auto)]
+
 ghost use Rattle.std.specs.Prelude.{◌≡◌, true, [], ◌∷◌, ◌+◌, ◌*◌, ◌<◌, ◌≤◌, eqb, ltb, length};
 ghost use Rattle.rules.specs.Bits.{pick, row};
 ghost use Rattle.rules.specs.Modes.{part_bits, slots, slot_bits, symbols};
@@ -14,7 +16,7 @@ use order::points;
 use rules::{Carried, Cell, Point};
 
 // Where a cell is: in no interlace, or at a place of interlace k.
-#[derive(Drop)]
+#[derive(Clone, Copy)]
 enum Spot {
     Outside,
     Place(usize, usize),

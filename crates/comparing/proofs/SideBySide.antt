@@ -11,7 +11,7 @@ use lib.Dec.{T, eqb}
 use lib.ListN.{length, take, drop, length-append, length-drop}
 use lib.Seq.{ext_get_or, get_or-take, get_or-drop, length-take-le}
 use Rattle.rules.specs.Bits.{row, passing}
-use Rattle.rules.specs.Compare.{Grids, differs, differing, difference, differences, filled, one_length, comparing_number, CompareRule, symbol_alone, in_turn, total}
+use Rattle.rules.specs.Compare.{Grids, differs, differing, difference, one_length, comparing_number, CompareRule, symbol_alone, in_turn, total}
 use Rattle.rules.specs.Demands.{Symbols, SideBySide}
 use Rattle.rules.specs.declared.Comparison.{Comparison}
 use Rattle.comparing.proofs.Lengths.{one-length, compared-lengths}

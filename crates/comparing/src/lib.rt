@@ -1,4 +1,6 @@
 // Two grids side by side: the cells that differ, by the bit patterns of their parts.
+#![tactic(auto)]
+
 ghost use Rattle.std.specs.Prelude.{◌≡◌, ◌<◌, ◌≤◌, T, length};
 ghost use Rattle.rules.specs.Compare as rule;
 ghost use Rattle.rules.specs.Compare.{CompareRule, grids, one_length, comparing_number, differing, differences, filled};

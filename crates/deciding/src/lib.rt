@@ -1,4 +1,6 @@
 // What a part, a point and each cell of a list decide to.
+#![tactic(auto)]
+
 ghost use Rattle.std.specs.Prelude.{◌≡◌, ◌*◌, ◌<◌, ◌≤◌, Float, length, get_or};
 ghost use Rattle.rules.specs.Modes.{part_bits};
 ghost use Rattle.rules.specs.Points as points;
@@ -10,7 +12,7 @@ ghost use Rattle.deciding.specs.Deciding.{sign_or, byte_of, DecideRule};
 use rules::Point;
 
 // The numbers that a point's two parts decide to.
-#[derive(Drop)]
+#[derive(Clone, Copy)]
 pub struct Decision {
     pub first: u8,
     pub second: u8,

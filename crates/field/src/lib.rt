@@ -1,4 +1,6 @@
 // GF(256) as document 01's outer code has it.
+#![tactic(auto)]
+
 ghost use Rattle.std.specs.Prelude.{◌≡◌};
 ghost use Rattle.rules.specs.Field as rule;
 ghost use Rattle.rules.specs.Field.{◌⊕◌, ◌⊗◌};
@@ -8,7 +10,7 @@ mod tables;
 use tables::{high_multiples, low_multiples, mask};
 
 // An element of the field: bit i of the byte is the coefficient of x^i.
-#[derive(Drop)]
+#[derive(Clone, Copy)]
 pub struct Element(pub u8);
 
 impl Element {

@@ -1,4 +1,6 @@
-// The C interface, thin: include/flo.h says each call's rule in words.
+// The calls of the C interface, thin: include/flo.h says each call's rule in words. What C links are flo_c's exports of them.
+#![tactic(auto)]
+
 ghost use Rattle.std.specs.Prelude.{◌≡◌};
 ghost use Rattle.flo.specs.Calls.{FloSend, FloSendSymbol, FloReceive, FloFeed, FloAsk, FloReadProfile, FloWriteProfile, FloParity, FloCompare, FloAdd};
 
@@ -22,8 +24,7 @@ fn refusal(a: Reading) -> Answer
     }
 }
 
-#[unsafe(no_mangle)]
-pub extern "C" fn flo_send(
+pub fn flo_send(
     profile: &[u8],
     data: &[u8],
     firsts: &mut [f32],
@@ -40,8 +41,7 @@ pub extern "C" fn flo_send(
     place_over(sending::send(p, data, firsts, seconds), place)
 }
 
-#[unsafe(no_mangle)]
-pub extern "C" fn flo_send_symbol(
+pub fn flo_send_symbol(
     profile: &[u8],
     data: &[u8],
     symbol: usize,
@@ -73,8 +73,7 @@ fn hand_over(receipt: Receipt, lost: &mut u16, reasons: &mut [u8; 16], place: &m
     receipt.number
 }
 
-#[unsafe(no_mangle)]
-pub extern "C" fn flo_receive(
+pub fn flo_receive(
     profile: &[u8],
     marks: u16,
     firsts: &[f32],
@@ -99,8 +98,7 @@ pub extern "C" fn flo_receive(
     )
 }
 
-#[unsafe(no_mangle)]
-pub extern "C" fn flo_feed(
+pub fn flo_feed(
     profile: &[u8],
     state: &mut [u8],
     firsts: &[f32],
@@ -117,8 +115,7 @@ pub extern "C" fn flo_feed(
     place_over(receiving::feed(p, state, firsts, seconds), place)
 }
 
-#[unsafe(no_mangle)]
-pub extern "C" fn flo_ask(
+pub fn flo_ask(
     profile: &[u8],
     marks: u16,
     state: &[u8],
@@ -137,8 +134,7 @@ pub extern "C" fn flo_ask(
     hand_over(receiving::ask(p, marks, state, data), lost, reasons, place)
 }
 
-#[unsafe(no_mangle)]
-pub extern "C" fn flo_read_profile(
+pub fn flo_read_profile(
     profile: &[u8],
     masks: &mut [u32; 8],
     level: &mut f32,
@@ -164,8 +160,7 @@ pub extern "C" fn flo_read_profile(
     a.number
 }
 
-#[unsafe(no_mangle)]
-pub extern "C" fn flo_write_profile(
+pub fn flo_write_profile(
     masks: &[u32; 8],
     level: f32,
     mode: u8,
@@ -195,15 +190,13 @@ pub extern "C" fn flo_write_profile(
     a.number
 }
 
-#[unsafe(no_mangle)]
-pub extern "C" fn flo_parity(k: u8, block: &mut [u8]) -> u32
+pub fn flo_parity(k: u8, block: &mut [u8]) -> u32
     ensures { FloParity k block.old block.new result }
 {
     outer::number(outer::fill_parity(k, block))
 }
 
-#[unsafe(no_mangle)]
-pub extern "C" fn flo_compare(
+pub fn flo_compare(
     firsts_a: &[u32],
     seconds_a: &[u32],
     firsts_b: &[u32],
@@ -218,8 +211,7 @@ pub extern "C" fn flo_compare(
     answer.number
 }
 
-#[unsafe(no_mangle)]
-pub extern "C" fn flo_add(totals: &mut [u64], number: u32, lost: u16, reasons: &[u8; 16]) -> u32
+pub fn flo_add(totals: &mut [u64], number: u32, lost: u16, reasons: &[u8; 16]) -> u32
     ensures { FloAdd totals.old number lost reasons.now totals.new result }
 {
     let given = *reasons;

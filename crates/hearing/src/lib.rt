@@ -1,4 +1,6 @@
 // A block's bits read from what its cells decide to.
+#![tactic(auto)]
+
 ghost use Rattle.std.specs.Prelude.{◌≡◌, ◌*◌, ◌<◌, ◌≤◌, length};
 ghost use Rattle.rules.specs.Bits.{row};
 ghost use Rattle.rules.specs.Modes.{part_bits, slots, slot_bits, symbols};

@@ -1,4 +1,6 @@
 // The turbo interleaver at width 5 and length 994.
+#![tactic(auto)]
+
 ghost use Rattle.std.specs.Prelude.{◌≡◌, ◌<◌};
 ghost use Rattle.rules.specs.Bits.{row};
 ghost use Rattle.rules.specs.Kept as keeping;
@@ -14,7 +16,7 @@ const D: [u16; 32] = [
 ];
 
 // A kept address, and the counter that gave it.
-#[derive(Drop)]
+#[derive(Clone, Copy)]
 pub struct Kept {
     pub address: u16,
     pub counter: u16,

@@ -1,4 +1,6 @@
 // The figures of a transmission mode. A number that is no mode counts as 1.
+#![tactic(auto)]
+
 ghost use Rattle.std.specs.Prelude.{◌≡◌, ◌*◌, ◌<◌, ◌≤◌};
 ghost use Rattle.rules.specs.Modes.{is_mode, part_bits, slot_bits, packet_bits, slots, symbols};
 ghost use Rattle.rules.specs.Modes as rule;

@@ -1,5 +1,7 @@
 // The order of a slot's points as two tables: the places of its points, and the points at its places. To be had once for a symbol or a block, since
 // each call copies the table.
+#![tactic(auto)]
+
 ghost use Rattle.order.specs.Order.{Places, Points};
 
 mod place_table;

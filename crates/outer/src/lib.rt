@@ -1,4 +1,6 @@
 // The outer code: parity of a block, and restoring lost packets. A block is 16 packets of 122 bytes, packet after packet.
+#![tactic(auto)]
+
 ghost use Rattle.std.specs.Prelude.{◌≡◌};
 ghost use Rattle.rules.specs.Outer.{is_k, ParityMade, Restored};
 ghost use Rattle.rules.specs.Answers.{outcome_number};

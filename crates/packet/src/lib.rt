@@ -1,4 +1,6 @@
 // A packet's bits and its check word. A bit is a byte that is 0 or 1.
+#![tactic(auto)]
+
 ghost use Rattle.std.specs.Prelude.{◌≡◌, ◌&&◌, ◌%◌, ◌<◌, ◌≤◌, eqb, length};
 ghost use Rattle.rules.specs.Bits.{row, bit_of};
 ghost use Rattle.rules.specs.Packet.{check_step, check_word, packet_bit};

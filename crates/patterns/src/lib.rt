@@ -1,5 +1,7 @@
 // Which outputs of the two encoders are sent and where each stands, and as which bits a packet's own are sent, as tables of a mode; a number that is no
 // mode counts as 1. It is a room of its own so that an edit of the encoders or of the judgement needn't check this again.
+#![tactic(auto)]
+
 ghost use Rattle.std.specs.Prelude.{◌≡◌, ◌*◌, ◌≤◌, ◌<◌};
 ghost use Rattle.rules.specs.Interleaver.{bit_interleaved, bit_deinterleaved};
 ghost use Rattle.rules.specs.Turbo as rule;

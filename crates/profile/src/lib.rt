@@ -1,4 +1,6 @@
 // The profile, read and written by the same rules.
+#![tactic(auto)]
+
 ghost use Rattle.std.specs.Prelude.{◌≡◌, ◌≤◌, length};
 ghost use Rattle.std.proofs.lemmas.List.Edits.{sets};
 ghost use Rattle.rules.specs.Profile.{blank as blankOf, fault as fault_of, only as onlyOf, reading, refused as refusedOf, writing, written};

@@ -1,5 +1,5 @@
-// The lent profile and a position in it, taken field by field. A struct that holds a reference is proved by hand, so the functions over it are
-// thin: the work is done by `take`, on the slice and the number.
+// The lent profile and a position in it, taken field by field. The functions over the struct are thin: the work is done by `take`, on the slice
+// and the number.
 ghost use Rattle.std.specs.Prelude.{◌≡◌, ◌<◌};
 ghost use Rattle.profile.specs.Fields.{many};
 ghost use Rattle.profile.specs.Reader.{taken};
@@ -8,14 +8,14 @@ use super::{fields, header};
 use rules::{Answer, Profile};
 
 // A lent profile, and a position in it.
-#[derive(Drop)]
+#[derive(Clone, Copy)]
 pub(crate) struct Reader<'a> {
     pub(crate) src: &'a [u8],
     pub(crate) at: usize,
 }
 
 // What taking a field answers: at 0 the position after the field and the profile with its value, else the refusal and both as they were.
-#[derive(Drop)]
+#[derive(Clone, Copy)]
 pub(crate) struct Step {
     pub(crate) answer: Answer,
     pub(crate) at: usize,

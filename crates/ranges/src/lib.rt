@@ -1,4 +1,6 @@
 // The ranges of a profile's numbers: whether a number is in its own, and how many of several stand before the first that isn't.
+#![tactic(auto)]
+
 ghost use Rattle.std.specs.Prelude.{◌≡◌, ◌++◌, ◌≤◌, eqb, length, take, drop};
 ghost use Rattle.rules.specs.Outer.{is_k};
 ghost use Rattle.rules.specs.Profile.{each, floor_under, in20, is_floor, is_level, sends as sendsOf};

@@ -1,4 +1,6 @@
 // Receiving a block: a whole grid, or one that is fed in pieces and then asked for.
+#![tactic(auto)]
+
 ghost use Rattle.std.specs.Prelude.{◌≡◌};
 ghost use Rattle.rules.specs.Block as rule;
 ghost use Rattle.rules.specs.Block.{ReceiveRule};

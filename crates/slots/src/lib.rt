@@ -1,4 +1,6 @@
 // Scrambling of a slot's bits. A bit is a byte that is 0 or 1; 2 is a doubtful one.
+#![tactic(auto)]
+
 ghost use Rattle.std.specs.Prelude.{◌≡◌, ℕ, ◌<◌, ◌≤◌, ◌%◌, ◌^◌, min, length};
 ghost use Rattle.rules.specs.Bits.{row};
 ghost use Rattle.rules.specs.Slots.{scrambler_step, both, scrambling};

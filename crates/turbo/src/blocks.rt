@@ -12,7 +12,7 @@ use super::{code_with, copy, judge_with};
 use rules::Judgement;
 
 // The lost mask, the reasons, and the block of what is accepted, with zeros for what is lost.
-#[derive(Drop)]
+#[derive(Clone, Copy)]
 pub struct Verdicts {
     pub lost: u16,
     pub reasons: [u8; 16],

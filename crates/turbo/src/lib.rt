@@ -1,4 +1,6 @@
 // One packet's coded bits, and the judgement on decided ones; a whole block's are in blocks.rt. A bit is a byte that is 0 or 1.
+#![tactic(auto)]
+
 ghost use Rattle.std.specs.Prelude.{◌≡◌, ◌&&◌, ℕ, ◌+◌, ◌≤◌, ◌<◌, length, replicate};
 ghost use Rattle.rules.specs.Bits.{row};
 ghost use Rattle.rules.specs.Packet.{packet_bit};
@@ -55,7 +57,7 @@ fn shifted(a: u8, s: u8) -> u8
 }
 
 // What an encoder puts out in one period, and its register then.
-#[derive(Drop)]
+#[derive(Clone, Copy)]
 struct Period {
     x: u8,
     y0: u8,

@@ -1,4 +1,6 @@
 // Twins: slots of one symbol with the same seed and the same mask.
+#![tactic(auto)]
+
 ghost use Rattle.std.specs.Prelude.{◌≡◌, ◌≤◌, ◌<◌, ltb, length};
 ghost use Rattle.rules.specs.Bits.{pick};
 ghost use Rattle.rules.specs.Modes.{slots as slots_of};

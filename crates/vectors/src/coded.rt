@@ -5,6 +5,7 @@ ghost use Rattle.rules.specs.Answers.{coding_number};
 use super::rows::Row;
 use super::{print, rows};
 use rules::Coding;
+use std::io;
 
 // The paper number of an answer.
 fn number(a: Coding) -> usize
@@ -18,31 +19,38 @@ fn number(a: Coding) -> usize
 }
 
 // The answer's number, the check word of all bits, and the first and last of them.
-fn coded(name: &[u8], mode: u8, bytes: &[u8], out: &mut [u8])
+fn coded(rt: &impl Print, name: &[u8], mode: u8, bytes: &[u8], out: &mut [u8]) -> io::Result<()>
     requires { 32 ≤ length out.old }
 {
     let answer = turbo::code(mode, bytes, out);
-    print::text(b"coded ");
-    print::text(name);
-    print::byte(mode);
-    print::decimal(number(answer));
-    print::word(out);
-    print::digits(&out[0..32]);
+    print::text(rt, b"coded ")?;
+    print::text(rt, name)?;
+    print::byte(rt, mode)?;
+    print::decimal(rt, number(answer))?;
+    print::word(rt, out)?;
+    print::digits(rt, &out[0..32])?;
     let from = out.len() - 32;
-    print::digits(&out[from..]);
-    print::end();
+    print::digits(rt, &out[from..])?;
+    print::end(rt)
 }
 
-fn in_modes(name: &[u8], bytes: &[u8]) {
-    coded(name, 0, bytes, &mut [0u8; 3000]);
-    coded(name, 1, bytes, &mut [0u8; 2000]);
-    coded(name, 2, bytes, &mut [0u8; 3000]);
-    coded(name, 3, bytes, &mut [0u8; 2000]);
-    coded(name, 4, bytes, &mut [0u8; 1500]);
+fn in_modes(rt: &impl Print, name: &[u8], bytes: &[u8]) -> io::Result<()> {
+    coded(rt, name, 0, bytes, &mut [0u8; 3000])?;
+    coded(rt, name, 1, bytes, &mut [0u8; 2000])?;
+    coded(rt, name, 2, bytes, &mut [0u8; 3000])?;
+    coded(rt, name, 3, bytes, &mut [0u8; 2000])?;
+    coded(rt, name, 4, bytes, &mut [0u8; 1500])
 }
 
 // The reason, and the check word of the bytes, with up to two of the packet's n bits flipped: a place of n is none.
-fn judged(mode: u8, n: usize, at: usize, also: usize, bytes: &[u8])
+fn judged(
+    rt: &impl Print,
+    mode: u8,
+    n: usize,
+    at: usize,
+    also: usize,
+    bytes: &[u8],
+) -> io::Result<()>
     requires { n ≤ 3000 }
 {
     let mut v = [0u8; 3000];
@@ -54,35 +62,35 @@ fn judged(mode: u8, n: usize, at: usize, also: usize, bytes: &[u8])
         v[also] = v[also] ^ 1;
     }
     let a = turbo::judge(mode, v);
-    print::text(b"judged");
-    print::decimal(at);
-    print::decimal(also);
-    print::byte(a.reason);
-    print::bytes_word(&a.bytes);
-    print::end();
+    print::text(rt, b"judged")?;
+    print::decimal(rt, at)?;
+    print::decimal(rt, also)?;
+    print::byte(rt, a.reason)?;
+    print::bytes_word(rt, &a.bytes)?;
+    print::end(rt)
 }
 
 // Of the places one is the first reserved bit's.
-fn judgements(mode: u8, n: usize, reserved: usize, bytes: &[u8])
+fn judgements(rt: &impl Print, mode: u8, n: usize, reserved: usize, bytes: &[u8]) -> io::Result<()>
     requires { (1 ≤ n) × (n ≤ 3000) }
 {
-    judged(mode, n, n, n, bytes);
-    judged(mode, n, 0, n, bytes);
-    judged(mode, n, 4, n, bytes);
-    judged(mode, n, n - 1, n, bytes);
-    judged(mode, n, reserved, n, bytes);
-    judged(mode, n, 0, reserved, bytes);
+    judged(rt, mode, n, n, n, bytes)?;
+    judged(rt, mode, n, 0, n, bytes)?;
+    judged(rt, mode, n, 4, n, bytes)?;
+    judged(rt, mode, n, n - 1, n, bytes)?;
+    judged(rt, mode, n, reserved, n, bytes)?;
+    judged(rt, mode, n, 0, reserved, bytes)
 }
 
-pub fn all() {
-    in_modes(b"zeros", &[0u8; 122]);
-    in_modes(b"ones", &[255u8; 122]);
+pub fn all(rt: &impl Print) -> io::Result<()> {
+    in_modes(rt, b"zeros", &[0u8; 122])?;
+    in_modes(rt, b"ones", &[255u8; 122])?;
     let mut bytes = [0u8; 122];
     rows::add(Row::Formula, &mut bytes);
-    in_modes(b"formula", &bytes);
-    coded(b"short", 1, &bytes[0..121], &mut [0u8; 2000]);
-    coded(b"room", 0, &bytes, &mut [0u8; 2999]);
-    coded(b"mode", 5, &bytes, &mut [0u8; 2000]);
-    judgements(1, 2000, 1939, &bytes);
-    judgements(4, 1500, 1455, &bytes);
+    in_modes(rt, b"formula", &bytes)?;
+    coded(rt, b"short", 1, &bytes[0..121], &mut [0u8; 2000])?;
+    coded(rt, b"room", 0, &bytes, &mut [0u8; 2999])?;
+    coded(rt, b"mode", 5, &bytes, &mut [0u8; 2000])?;
+    judgements(rt, 1, 2000, 1939, &bytes)?;
+    judgements(rt, 4, 1500, 1455, &bytes)
 }

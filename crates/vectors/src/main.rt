@@ -1,4 +1,6 @@
 // Runs the rooms below the card on inputs by formula and prints what comes out. `stdout` is what outside/flo.py says.
+#![tactic(auto)]
+
 mod blocks;
 mod coded;
 mod decisions;
@@ -10,13 +12,15 @@ mod rows;
 mod sequences;
 mod symbols;
 
-fn main() {
-    packets::all();
-    powers::all();
-    blocks::all();
-    coded::all();
-    sequences::all();
-    symbols::all();
-    decisions::all();
-    floors::all();
+use std::io;
+
+fn main(rt: HostRuntime) -> io::Result<()> {
+    packets::all(&rt)?;
+    powers::all(&rt)?;
+    blocks::all(&rt)?;
+    coded::all(&rt)?;
+    sequences::all(&rt)?;
+    symbols::all(&rt)?;
+    decisions::all(&rt)?;
+    floors::all(&rt)
 }

@@ -1,25 +1,26 @@
 // Packets' bits, and the judgement on flipped ones.
 use super::rows::Row;
 use super::{print, rows};
+use std::io;
 
-fn nine_digits() {
-    print::text(b"packet digits");
-    print::bytes_word(b"123456789");
-    print::end();
+fn nine_digits(rt: &impl Print) -> io::Result<()> {
+    print::text(rt, b"packet digits")?;
+    print::bytes_word(rt, b"123456789")?;
+    print::end(rt)
 }
 
 // The check word of all 1000 bits, which is the same for every packet; the first 16, the last data bits, the check bits, and the zeros.
-fn packet_of(name: &[u8], bytes: [u8; 122]) {
+fn packet_of(rt: &impl Print, name: &[u8], bytes: [u8; 122]) -> io::Result<()> {
     let x = packet::bits_of(bytes);
     let s = &x[..];
-    print::text(b"packet ");
-    print::text(name);
-    print::word(s);
-    print::digits(&s[0..16]);
-    print::digits(&s[968..976]);
-    print::digits(&s[976..992]);
-    print::digits(&s[992..]);
-    print::end();
+    print::text(rt, b"packet ")?;
+    print::text(rt, name)?;
+    print::word(rt, s)?;
+    print::digits(rt, &s[0..16])?;
+    print::digits(rt, &s[968..976])?;
+    print::digits(rt, &s[976..992])?;
+    print::digits(rt, &s[992..])?;
+    print::end(rt)
 }
 
 // The bits that are judged, one of them flipped.
@@ -32,35 +33,35 @@ fn with_flip(at: usize, x: [u8; 1000]) -> [u8; 994] {
 }
 
 // Whether the check bits and the reserved bits are right, and the first and the last byte.
-fn flipped(at: usize, x: [u8; 1000]) {
+fn flipped(rt: &impl Print, at: usize, x: [u8; 1000]) -> io::Result<()> {
     let y = with_flip(at, x);
     let bytes = packet::bytes_of(y);
-    print::text(b"packet flipped");
-    print::decimal(at);
-    print::flag(packet::check_right(y));
-    print::flag(packet::reserved_right(y));
-    print::hex_byte(bytes[0]);
-    print::hex_byte(bytes[121]);
-    print::end();
+    print::text(rt, b"packet flipped")?;
+    print::decimal(rt, at)?;
+    print::flag(rt, packet::check_right(y))?;
+    print::flag(rt, packet::reserved_right(y))?;
+    print::hex_byte(rt, bytes[0])?;
+    print::hex_byte(rt, bytes[121])?;
+    print::end(rt)
 }
 
-fn flips(bytes: [u8; 122]) {
+fn flips(rt: &impl Print, bytes: [u8; 122]) -> io::Result<()> {
     let x = packet::bits_of(bytes);
-    flipped(0, x);
-    flipped(975, x);
-    flipped(976, x);
-    flipped(991, x);
-    flipped(992, x);
-    flipped(993, x);
-    flipped(994, x);
+    flipped(rt, 0, x)?;
+    flipped(rt, 975, x)?;
+    flipped(rt, 976, x)?;
+    flipped(rt, 991, x)?;
+    flipped(rt, 992, x)?;
+    flipped(rt, 993, x)?;
+    flipped(rt, 994, x)
 }
 
-pub fn all() {
-    nine_digits();
-    packet_of(b"zeros", [0u8; 122]);
-    packet_of(b"ones", [255u8; 122]);
+pub fn all(rt: &impl Print) -> io::Result<()> {
+    nine_digits(rt)?;
+    packet_of(rt, b"zeros", [0u8; 122])?;
+    packet_of(rt, b"ones", [255u8; 122])?;
     let mut bytes = [0u8; 122];
     rows::add(Row::Formula, &mut bytes);
-    packet_of(b"formula", bytes);
-    flips(bytes);
+    packet_of(rt, b"formula", bytes)?;
+    flips(rt, bytes)
 }

@@ -2,77 +2,78 @@
 use super::rows::{Row, times};
 use super::{print, rows};
 use field::Element;
+use std::io;
 
-fn products() {
-    print::text(b"field products");
-    print::hex_byte(times(0, 7));
-    print::hex_byte(times(1, 255));
-    print::hex_byte(times(2, 128));
-    print::hex_byte(times(128, 2));
-    print::hex_byte(times(255, 255));
-    print::hex_byte(times(73, 73));
-    print::hex_byte(times(56, 207));
-    print::hex_byte(times(207, 56));
-    print::hex_byte(times(238, 245));
-    print::hex_byte(times(245, 94));
-    print::hex_byte(times(94, 235));
-    print::hex_byte(times(235, 238));
-    print::end();
+fn products(rt: &impl Print) -> io::Result<()> {
+    print::text(rt, b"field products")?;
+    print::hex_byte(rt, times(0, 7))?;
+    print::hex_byte(rt, times(1, 255))?;
+    print::hex_byte(rt, times(2, 128))?;
+    print::hex_byte(rt, times(128, 2))?;
+    print::hex_byte(rt, times(255, 255))?;
+    print::hex_byte(rt, times(73, 73))?;
+    print::hex_byte(rt, times(56, 207))?;
+    print::hex_byte(rt, times(207, 56))?;
+    print::hex_byte(rt, times(238, 245))?;
+    print::hex_byte(rt, times(245, 94))?;
+    print::hex_byte(rt, times(94, 235))?;
+    print::hex_byte(rt, times(235, 238))?;
+    print::end(rt)
 }
 
-fn table() {
+fn table(rt: &impl Print) -> io::Result<()> {
     let mut row = [0u8; 4096];
     rows::add(Row::Products, &mut row);
-    print::text(b"field table");
-    print::bytes_word(&row);
-    print::end();
+    print::text(rt, b"field table")?;
+    print::bytes_word(rt, &row)?;
+    print::end(rt)
 }
 
-fn power(a: u8, k: u32) {
-    print::hex_byte(Element(a).power(k).0);
+fn power(rt: &impl Print, a: u8, k: u32) -> io::Result<()> {
+    print::hex_byte(rt, Element(a).power(k).0)
 }
 
-fn powers(a: u8) {
-    print::text(b"field powers");
-    power(a, 0);
-    power(a, 1);
-    power(a, 8);
-    power(a, 44);
-    power(a, 70);
-    power(a, 152);
-    power(a, 201);
-    power(a, 231);
-    power(a, 235);
-    power(a, 246);
-    power(a, 254);
-    power(a, 255);
-    print::end();
+fn powers(rt: &impl Print, a: u8) -> io::Result<()> {
+    print::text(rt, b"field powers")?;
+    power(rt, a, 0)?;
+    power(rt, a, 1)?;
+    power(rt, a, 8)?;
+    power(rt, a, 44)?;
+    power(rt, a, 70)?;
+    power(rt, a, 152)?;
+    power(rt, a, 201)?;
+    power(rt, a, 231)?;
+    power(rt, a, 235)?;
+    power(rt, a, 246)?;
+    power(rt, a, 254)?;
+    power(rt, a, 255)?;
+    print::end(rt)
 }
 
-fn inverse(a: u8) {
-    print::hex_byte(Element(a).inverse().0);
+fn inverse(rt: &impl Print, a: u8) -> io::Result<()> {
+    print::hex_byte(rt, Element(a).inverse().0)
 }
 
-fn inverses() {
+fn inverses(rt: &impl Print) -> io::Result<()> {
     let mut row = [0u8; 256];
     rows::add(Row::Inverses, &mut row);
-    print::text(b"field inverses");
-    inverse(0);
-    inverse(1);
-    inverse(2);
-    inverse(3);
-    inverse(73);
-    inverse(254);
-    inverse(255);
-    print::bytes_word(&row);
-    print::end();
+    print::text(rt, b"field inverses")?;
+    inverse(rt, 0)?;
+    inverse(rt, 1)?;
+    inverse(rt, 2)?;
+    inverse(rt, 3)?;
+    inverse(rt, 73)?;
+    inverse(rt, 254)?;
+    inverse(rt, 255)?;
+    print::bytes_word(rt, &row)?;
+    print::end(rt)
 }
 
-pub fn all() {
-    products();
-    table();
-    powers(2);
-    powers(3);
-    powers(0);
-    inverses();
+pub fn all(rt: &impl Print) -> io::Result<()> {
+    products(rt)?;
+    table(rt)?;
+    powers(rt, 2)?;
+    powers(rt, 3)?;
+    powers(rt, 0)?;
+    inverses(rt)
 }

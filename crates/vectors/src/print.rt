@@ -1,38 +1,35 @@
 // Words, numbers and rows on standard output; a number or a row comes after a blank. A long row is printed by its check word.
 ghost use Rattle.std.specs.Prelude.{◌*◌, ◌≤◌, length};
 
-pub fn text(s: &[u8]) {
-    io::write_all(1, s);
+use std::io;
+
+pub fn text(rt: &impl Print, s: &[u8]) -> io::Result<()> {
+    rt.write_all(s)
 }
 
-pub fn decimal(n: usize) {
-    text(b" ");
-    io::print_decimal(1, n as u64);
+pub fn decimal(rt: &impl Print, n: usize) -> io::Result<()> {
+    print!(rt; " {n}")
 }
 
-pub fn flag(b: bool) {
-    if b {
-        decimal(1);
-    } else {
-        decimal(0);
-    }
+pub fn flag(rt: &impl Print, b: bool) -> io::Result<()> {
+    if b { decimal(rt, 1) } else { decimal(rt, 0) }
 }
 
-pub fn byte(b: u8) {
-    decimal(b as usize);
+pub fn byte(rt: &impl Print, b: u8) -> io::Result<()> {
+    decimal(rt, b as usize)
 }
 
-pub fn hex(n: u32, width: usize) {
-    text(b" ");
-    io::print_hex(1, n as u64, width);
+// With leading zeros, up to the width.
+pub fn hex(rt: &impl Print, n: u32, width: usize) -> io::Result<()> {
+    print!(rt; " {n:0width$x}")
 }
 
-pub fn hex_byte(b: u8) {
-    hex(b as u32, 2);
+pub fn hex_byte(rt: &impl Print, b: u8) -> io::Result<()> {
+    hex(rt, b as u32, 2)
 }
 
-pub fn end() {
-    text(b"\n");
+pub fn end(rt: &impl Print) -> io::Result<()> {
+    text(rt, b"\n")
 }
 
 fn all_bits(x: &[u8]) -> bool {
@@ -45,11 +42,11 @@ fn all_bits(x: &[u8]) -> bool {
 }
 
 // The check word of bits.
-pub fn word(x: &[u8]) {
+pub fn word(rt: &impl Print, x: &[u8]) -> io::Result<()> {
     if all_bits(x) {
-        hex(packet::check_of(x) as u32, 4);
+        hex(rt, packet::check_of(x) as u32, 4)
     } else {
-        text(b" no bits");
+        text(rt, b" no bits")
     }
 }
 
@@ -67,28 +64,29 @@ fn put_bits(bytes: &[u8], bits: &mut [u8])
 }
 
 // The check word of bytes.
-pub fn bytes_word(bytes: &[u8])
+pub fn bytes_word(rt: &impl Print, bytes: &[u8]) -> io::Result<()>
     requires { length bytes.now ≤ 4096 }
 {
     let mut room = [0u8; 32768];
     let bits = &mut room[0..8 * bytes.len()];
     put_bits(bytes, bits);
-    word(bits);
+    word(rt, bits)
 }
 
-fn digit(b: u8) {
+fn digit(rt: &impl Print, b: u8) -> io::Result<()> {
     match b {
-        0 => text(b"0"),
-        1 => text(b"1"),
-        2 => text(b"2"),
-        _ => text(b"?"),
+        0 => text(rt, b"0"),
+        1 => text(rt, b"1"),
+        2 => text(rt, b"2"),
+        _ => text(rt, b"?"),
     }
 }
 
 // Bits, doubtful ones too.
-pub fn digits(x: &[u8]) {
-    text(b" ");
+pub fn digits(rt: &impl Print, x: &[u8]) -> io::Result<()> {
+    text(rt, b" ")?;
     for i in 0..x.len() {
-        digit(x[i]);
+        digit(rt, x[i])?;
     }
+    Ok(())
 }

@@ -4,7 +4,7 @@ ghost use Rattle.std.specs.Prelude.{◌≡◌, ◌<◌, ◌≤◌, length};
 use field::Element;
 use rules::Carried;
 
-#[derive(Drop)]
+#[derive(Clone, Copy)]
 pub enum Row {
     // The inputs.
     Formula,

@@ -2,74 +2,75 @@
 use super::rows::Row;
 use super::{print, rows};
 use rules::Carried;
+use std::io;
 
 // How many cells carry a point, and what all of them carry.
-fn symbol(mode: u8, s: usize) {
+fn symbol(rt: &impl Print, mode: u8, s: usize) -> io::Result<()> {
     let mut row = [0u8; 4096];
     rows::add(Row::Cells(mode, s), &mut row);
-    print::text(b"cells");
-    print::byte(mode);
-    print::decimal(s);
-    print::decimal(rows::differing(&row, &[0u8; 4096]));
-    print::bytes_word(&row);
-    print::end();
+    print::text(rt, b"cells")?;
+    print::byte(rt, mode)?;
+    print::decimal(rt, s)?;
+    print::decimal(rt, rows::differing(&row, &[0u8; 4096]))?;
+    print::bytes_word(rt, &row)?;
+    print::end(rt)
 }
 
-fn cell(mode: u8, s: usize, c: usize) {
-    print::text(b"cell");
-    print::byte(mode);
-    print::decimal(s);
-    print::decimal(c);
+fn cell(rt: &impl Print, mode: u8, s: usize, c: usize) -> io::Result<()> {
+    print::text(rt, b"cell")?;
+    print::byte(rt, mode)?;
+    print::decimal(rt, s)?;
+    print::decimal(rt, c)?;
     match cells::carried(mode, s, c) {
-        Carried::Nothing => print::text(b" nothing"),
+        Carried::Nothing => print::text(rt, b" nothing")?,
         Carried::PointOf(t, i) => {
-            print::decimal(t);
-            print::decimal(i);
+            print::decimal(rt, t)?;
+            print::decimal(rt, i)?;
         }
     }
-    print::end();
+    print::end(rt)
 }
 
 // Those beside the places 0, 249, 250 and 499 of interlaces 0 and 1, and the unused one.
-fn edges(mode: u8, s: usize) {
-    cell(mode, s, 48);
-    cell(mode, s, 49);
-    cell(mode, s, 2040);
-    cell(mode, s, 2041);
-    cell(mode, s, 2048);
-    cell(mode, s, 2049);
-    cell(mode, s, 2056);
-    cell(mode, s, 4041);
-    cell(mode, s, 4047);
-    cell(mode, s, 4048);
-    cell(mode, s, 4049);
+fn edges(rt: &impl Print, mode: u8, s: usize) -> io::Result<()> {
+    cell(rt, mode, s, 48)?;
+    cell(rt, mode, s, 49)?;
+    cell(rt, mode, s, 2040)?;
+    cell(rt, mode, s, 2041)?;
+    cell(rt, mode, s, 2048)?;
+    cell(rt, mode, s, 2049)?;
+    cell(rt, mode, s, 2056)?;
+    cell(rt, mode, s, 4041)?;
+    cell(rt, mode, s, 4047)?;
+    cell(rt, mode, s, 4048)?;
+    cell(rt, mode, s, 4049)
 }
 
-pub fn all() {
-    symbol(0, 0);
-    symbol(0, 1);
-    symbol(0, 5);
-    symbol(0, 6);
-    symbol(0, 7);
-    edges(0, 0);
-    edges(0, 6);
-    symbol(1, 0);
-    symbol(1, 3);
-    symbol(1, 4);
-    symbol(1, 5);
-    edges(1, 4);
-    symbol(2, 0);
-    symbol(2, 2);
-    symbol(2, 3);
-    symbol(2, 4);
-    edges(2, 3);
-    symbol(3, 0);
-    symbol(3, 1);
-    symbol(3, 2);
-    symbol(3, 3);
-    edges(3, 2);
-    symbol(4, 0);
-    symbol(4, 1);
-    symbol(4, 2);
-    edges(4, 1);
+pub fn all(rt: &impl Print) -> io::Result<()> {
+    symbol(rt, 0, 0)?;
+    symbol(rt, 0, 1)?;
+    symbol(rt, 0, 5)?;
+    symbol(rt, 0, 6)?;
+    symbol(rt, 0, 7)?;
+    edges(rt, 0, 0)?;
+    edges(rt, 0, 6)?;
+    symbol(rt, 1, 0)?;
+    symbol(rt, 1, 3)?;
+    symbol(rt, 1, 4)?;
+    symbol(rt, 1, 5)?;
+    edges(rt, 1, 4)?;
+    symbol(rt, 2, 0)?;
+    symbol(rt, 2, 2)?;
+    symbol(rt, 2, 3)?;
+    symbol(rt, 2, 4)?;
+    edges(rt, 2, 3)?;
+    symbol(rt, 3, 0)?;
+    symbol(rt, 3, 1)?;
+    symbol(rt, 3, 2)?;
+    symbol(rt, 3, 3)?;
+    edges(rt, 3, 2)?;
+    symbol(rt, 4, 0)?;
+    symbol(rt, 4, 1)?;
+    symbol(rt, 4, 2)?;
+    edges(rt, 4, 1)
 }

@@ -1,0 +1,21 @@
+-- At the loop's head there is room in each total before i.
+use mathlib.Core.Path.{◌≡◌, refl, sym, ap₂, ◌∙◌}
+use mathlib.Core.Bool.{Bool, true, ◌&&◌}
+use mathlib.Core.List.{List}
+use mathlib.Core.Logic.{⊎_elim}
+use Prim.Native.Nat.{ℕ, ◌-◌, ◌^◌, ◌≤◌}
+use native.Mathlib.Omega.{arith}
+use lib.Dec.{ltb}
+use borrow.Author.Rules.{rules}
+use Rattle.rules.specs.Bits.{row, every_below}
+use Rattle.rules.specs.Totals.{plus, fits}
+use Rattle.rules.specs.declared.Receipt.{Receipt}
+use Rattle.laws.specs.Every.{every-next, every-fails}
+use Rattle.adding.proofs.Counting.{full, room}
+use Rattle.adding.proofs.has_room.Given as goal
+
+abbrev pub roomy : List ℕ → Receipt → ℕ → Bool
+roomy t a k = ltb (row (plus t a) k) (2 ^ 64)
+
+abbrev pub invariant-loop-i : goal.invariant-loop-i
+invariant-loop-i l = (l.i ≤ 128) × (every_below l.i (roomy l.totals l.a) ≡ true)

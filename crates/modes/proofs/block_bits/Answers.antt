@@ -1,0 +1,8 @@
+-- A block's packets fill its slots.
+use native.Mathlib.Omega.{arith}
+use Rattle.modes.proofs.Figures.{figures}
+use borrow.Author.Rules.{rules}
+use Rattle.modes.proofs.block_bits.Goals as goal
+
+pub returns : goal.returns
+returns c = omega (arith, c.packet_bits.ensures.0, c.packet_bits.ensures.2, (figures c.args.mode).whole)

@@ -1,0 +1,13 @@
+-- The loop's invariant: the first j entries are there.
+use mathlib.Core.Path.{◌≡◌, ap₂, ◌∙◌}
+use Prim.Native.Nat.{◌-◌, ◌≤◌, ◌<◌}
+use Rattle.rules.specs.Field.{◌⊗◌}
+use Rattle.laws.specs.Holds.{Holds}
+use Rattle.outer.specs.Solve.{entry}
+use Rattle.laws.specs.Filled.{up_to, up_to-below, holds-next, holds-new}
+use borrow.Author.Rules.{rules}
+use native.Mathlib.Omega.{arith}
+use Rattle.outer.proofs.matrix.entries.Given as goal
+
+abbrev pub invariant-loop-j : goal.invariant-loop-j
+invariant-loop-j l = (l.j ≤ l.r) × Holds 0 8 (up_to l.j (entry l.r l.lost l.p) (λ k. 0)) l.e

@@ -1,0 +1,25 @@
+-- The loop's invariant: i lost packets were passed, and each has its row.
+use mathlib.Core.Path.{◌≡◌, refl, sym, ◌∙◌, subst₂}
+use mathlib.Core.List.{List, []}
+use mathlib.Core.Logic.{⊎_elim}
+use Prim.Native.Nat.{ℕ, ◌+◌, ◌-◌, ◌≤◌, ◌<◌}
+use lib.ListN.{length, set, length-set, get_or}
+use lib.Seq.{get_or-set_same, get_or-set_other}
+use borrow.Author.Count.{below_more}
+use borrow.Author.Tests.{eqb-true, eqb-false}
+use Rattle.rules.specs.Outer.{marked}
+use Rattle.outer.specs.Solve.{tally, entry}
+use Rattle.outer.specs.Steps.{Starts, Rows}
+use Rattle.outer.proofs.Ones.{tally-next, tally-lt, place-lt}
+use borrow.Author.Rules.{rules}
+use native.Mathlib.Omega.{arith}
+use Rattle.outer.proofs.matrix.rows.Given as goal
+
+-- i lost packets are below p, and each has its row
+pub record Placed (r lost p : ℕ) (m : List (List ℕ)) (i : ℕ) : Type 0 where
+  pub long : length m ≡ 8
+  pub place : i ≡ tally (marked lost) p
+  pub rows : Rows p r lost m
+
+abbrev pub invariant-loop-p : goal.invariant-loop-p
+invariant-loop-p l = (l.p ≤ 16) × Placed l.r l.lost l.p l.m l.i

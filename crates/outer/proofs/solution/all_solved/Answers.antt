@@ -1,0 +1,64 @@
+-- The loop's invariant: the first j columns are worked out, and they are codewords.
+use mathlib.Core.Path.{◌≡◌, sym, ◌∙◌, subst}
+use mathlib.Core.List.{List}
+use Prim.Native.Nat.{ℕ, ◌+◌, ◌-◌, ◌≤◌, ◌<◌}
+use lib.ListN.{length}
+use borrow.Author.Count.{below_more}
+use borrow.Author.Tests.{not-true, not-false}
+use Rattle.rules.specs.Bits.{row}
+use Rattle.rules.specs.Outer.{column, Codeword}
+use Rattle.laws.specs.Holds.{Holds}
+use Rattle.outer.specs.Solve.{solved}
+use Rattle.outer.specs.Steps.{Put, Says, Solved}
+use Rattle.outer.proofs.Roots.{codeword-same}
+use borrow.Author.Rules.{rules}
+use native.Mathlib.Omega.{arith}
+use Rattle.outer.proofs.solution.all_solved.Goals as goal
+
+-- a turn
+column-more : (r lost j : ℕ) (block out out' c : List ℕ) → r ≤ 8 → j < 122 → Solved j r lost block out → Holds 0 16 (solved r lost (column block j)) c
+    → Codeword r (row c) → Put (row c) j out out' → Solved (j + 1) r lost block out'
+column-more r lost j block out out' c most lt before h good put =
+    below_more (λ (i : ℕ). Codeword r (solved r lost (column block i)) × ((p : ℕ) → p < 16 → column out' i p ≡ solved r lost (column block i) p)) j
+    (λ i l. ((before i l).0, λ p m. put.there i (omega arith) (omega arith) p m ∙ (before i l).1 p m))
+    (codeword-same most (λ p m. sym (h.each p m)) good, λ p m. put.here p m ∙ h.each p m)
+
+pub loop-j-init : goal.loop-j-init
+loop-j-init c = (omega arith, c.requires.4, λ i l. absurd (omega arith))
+
+pub solved-c-requires : goal.solved-c-requires
+solved-c-requires c =
+    let h = c.requires in
+    (h.0, h.1, c.roots-x.ensures, h.2, h.3, omega arith)
+
+pub shape_of-out-then-not-is_codeword : goal.shape_of-out-then-not-is_codeword
+shape_of-out-then-not-is_codeword c = c.loop-j.invariant.1 ∙ sym c.requires.4
+
+pub returns-then-not-is_codeword : goal.returns-then-not-is_codeword
+returns-then-not-is_codeword c =
+    let l = c.loop-j in
+    let s = c.solved-c in
+    let t = c.is_codeword in
+    let none = subst (Says (Codeword c.args.r (row s.result))) (c.if-not-is_codeword.true) t.ensures in
+    (l.j, omega arith, λ w. none (codeword-same c.requires.0 s.ensures.each w))
+
+pub put-requires : goal.put-requires
+put-requires c = (c.loop-j.invariant.1, omega arith)
+
+pub loop-j-preserved : goal.loop-j-preserved
+loop-j-preserved c =
+    let l = c.loop-j in
+    let s = c.solved-c in
+    let t = c.is_codeword in
+    let good = subst (Says (Codeword c.args.r (row s.result))) (c.if-not-is_codeword.false) t.ensures in (
+      omega arith,
+      c.put.ensures.long,
+      column-more c.args.r c.args.lost l.j c.args.block.now l.out _ s.result c.requires.0 (omega arith)
+          l.invariant.2 s.ensures good c.put.ensures,
+    )
+
+pub shape_of-out : goal.shape_of-out
+shape_of-out c = c.loop-j.invariant.1 ∙ sym c.requires.4
+
+pub returns : goal.returns
+returns c = λ j l. c.loop-j.invariant.2 j (omega arith)

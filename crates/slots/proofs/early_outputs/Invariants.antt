@@ -1,0 +1,16 @@
+-- `slots::early_outputs` meets its contract. The loop's invariant: the first i outputs are there.
+use mathlib.Core.Path.{◌≡◌}
+use Prim.Native.Nat.{◌-◌, ◌≤◌}
+use native.Mathlib.Omega.{arith}
+use Rattle.rules.specs.Slots.{scrambling}
+use Rattle.laws.specs.Holds.{Holds}
+use Rattle.laws.specs.Filled.{up_to}
+use Rattle.slots.proofs.Twice.{scrambling-lt}
+use Rattle.slots.proofs.Recurrence.{recurrence, holds-sum}
+use Rattle.slots.proofs.early_outputs.Given as goal
+
+abbrev pub invariant-loop-i : goal.invariant-loop-i
+invariant-loop-i l = Holds 0 2000 (up_to l.i (scrambling l.seed l.mask) (λ k. 0)) l.out × (20 ≤ l.i) × (l.i ≤ 80)
+
+abbrev pub decreases-loop-i : goal.decreases-loop-i
+decreases-loop-i l = 80 - l.i

@@ -1,0 +1,28 @@
+-- `slots::outputs` meets its contract. The loop's invariant: the first i outputs are there.
+use mathlib.Core.Path.{◌∙◌}
+use Prim.Native.Nat.{◌-◌, ◌≤◌}
+use native.Mathlib.Omega.{arith}
+use Rattle.rules.specs.Slots.{scrambling}
+use Rattle.laws.specs.Holds.{Holds}
+use Rattle.laws.specs.Filled.{up_to, up_to-below}
+use Rattle.slots.proofs.Twice.{scrambling-lt}
+use Rattle.slots.proofs.Recurrence.{recurrence-4, holds-sum}
+use Rattle.slots.proofs.outputs.Goals as goal
+
+pub loop-i-init : goal.loop-i-init
+loop-i-init c = (c.early_outputs-out.ensures, omega arith, omega arith)
+
+pub loop-i-preserved : goal.loop-i-preserved
+loop-i-preserved c =
+    let a = c.args in
+    let l = c.loop-i in (
+      holds-sum _ _ 80 12 (scrambling-lt a.seed a.mask) (recurrence-4 a.seed a.mask) (omega arith) l.i (omega arith) (omega arith) l.invariant.0,
+      omega arith,
+      omega arith,
+    )
+
+pub returns : goal.returns
+returns c k lt =
+    let a = c.args in
+    let l = c.loop-i in
+    l.invariant.0.each k (omega arith) ∙ up_to-below (scrambling a.seed a.mask) (λ n. 0) l.i k (omega arith)

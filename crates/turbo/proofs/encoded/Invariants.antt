@@ -1,0 +1,29 @@
+-- `encoded` fills in the four streams: before turn i, i parities of both encoders and their registers' states are there.
+use mathlib.Core.Path.{◌≡◌, refl, sym, ap, ap₂, ◌∙◌}
+use Prim.Native.Nat.{ℕ, ◌+◌, ◌-◌, ◌<◌, ◌≤◌}
+use native.Mathlib.Omega.{arith}
+use borrow.Author.Rules.{rules}
+use Rattle.rules.specs.Bits.{row}
+use Rattle.rules.specs.Turbo.{parity_of, shift, entering, state, y0}
+use Rattle.laws.specs.Holds.{Holds, holds_as}
+use Rattle.turbo.specs.Streams.{stream}
+use Rattle.turbo.specs.Within.{within, from, with_ends}
+use Rattle.turbo.proofs.Within.{within-before, within-after, both_stored, unfilled}
+use Rattle.turbo.proofs.Filling.{state-next, both-streams}
+use Rattle.turbo.proofs.encoded.Given as goal
+
+-- the parities of the first i bits, where g has the bits of both encoders
+abbrev pub walked : ℕ → (ℕ → ℕ) → ℕ → ℕ
+walked i g = within 997 i (y0 g) (within 2991 i (y0 (from g 1994)) g)
+
+abbrev pub invariant-loop-i : goal.invariant-loop-i
+invariant-loop-i l =
+    (l.i ≤ 994)
+    × (l.first < 8)
+    × (l.second < 8)
+    × (l.first ≡ state (row l.initial.s) l.i)
+    × (l.second ≡ state (from (row l.initial.s) 1994) l.i)
+    × Holds 0 3988 (walked l.i (row l.initial.s)) l.s
+
+abbrev pub decreases-loop-i : goal.decreases-loop-i
+decreases-loop-i l = 994 - l.i

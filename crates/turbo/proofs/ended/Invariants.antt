@@ -1,0 +1,28 @@
+-- `ended` writes the ends of two streams: before turn k, k elements of each.
+use mathlib.Core.Path.{◌≡◌, refl, sym, ap, ◌∙◌}
+use Prim.Native.Nat.{ℕ, ◌+◌, ◌-◌, ◌<◌, ◌≤◌}
+use native.Mathlib.Numerals.{add-one}
+use native.Mathlib.Omega.{arith}
+use borrow.Author.Rules.{rules}
+use Rattle.rules.specs.Bits.{row}
+use Rattle.rules.specs.Turbo.{feedback, parity_of, shift}
+use Rattle.laws.specs.Holds.{Holds}
+use Rattle.turbo.specs.Within.{within, after_zeros}
+use Rattle.turbo.proofs.Within.{both_stored, unfilled}
+use Rattle.turbo.proofs.ended.Given as goal
+
+abbrev pub last_x : ℕ → ℕ → ℕ
+last_x s k = feedback (after_zeros s k)
+
+abbrev pub last_y0 : ℕ → ℕ → ℕ
+last_y0 s k = parity_of 0 (after_zeros s k)
+
+abbrev pub invariant-loop-k : goal.invariant-loop-k
+invariant-loop-k l =
+    (l.k ≤ 3)
+    × (l.state < 8)
+    × (l.state ≡ after_zeros l.register l.k)
+    × Holds 0 3988 (within (l.base + 994) l.k (last_x l.register) (within (l.base + 1991) l.k (last_y0 l.register) (row l.initial.s))) l.s
+
+abbrev pub decreases-loop-k : goal.decreases-loop-k
+decreases-loop-k l = 3 - l.k

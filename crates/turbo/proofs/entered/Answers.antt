@@ -1,0 +1,42 @@
+-- `entered` puts the two encoders' bits in place: before turn i, i of each.
+use mathlib.Core.Path.{◌≡◌, refl, sym, ap, ◌∙◌}
+use Prim.Native.Nat.{ℕ, ◌+◌, ◌-◌, ◌≤◌}
+use native.Mathlib.Nat.{zero-add}
+use native.Mathlib.Omega.{arith}
+use lib.ListN.{get_or-replicate}
+use borrow.Author.Rules.{rules}
+use Rattle.rules.specs.Bits.{row}
+use Rattle.rules.specs.Interleaver.{table_d, interleaved}
+use Rattle.rules.specs.Slots.{second}
+use Rattle.laws.specs.Holds.{Holds}
+use Rattle.interleaver.proofs.Interleaving.{interleaved5-lt}
+use Rattle.turbo.specs.Within.{within}
+use Rattle.turbo.proofs.Within.{both_stored, unfilled}
+use Rattle.turbo.proofs.entered.Goals.{After-wide}
+use Rattle.turbo.proofs.entered.Goals as goal
+
+-- the address that a turn reads
+read : (c : After-wide) → c.wide.result ≡ interleaved 5 (row table_d) 994 c.loop-i.i
+read c =
+    c.wide.ensures.0 ∙ c.requires.each c.loop-i.i (omega arith)
+
+pub loop-i-init : goal.loop-i-init
+loop-i-init c = (omega arith, unfilled _ _ _ _ _ _ (search rules) (λ k lt. get_or-replicate {A = ℕ} 3988 k 0 0 lt))
+
+pub bounds-x-wide : goal.bounds-x-wide
+bounds-x-wide c = rw (read (goal.at.bounds-x-wide c).After-wide) (interleaved5-lt c.loop-i.i (omega arith))
+
+pub loop-i-preserved : goal.loop-i-preserved
+loop-i-preserved c =
+    let args = c.args in
+    let l = c.loop-i in (
+      omega arith,
+      both_stored 0 1994 l.i l.i (1994 + l.i) _ _ (row args.x) (second (row args.x)) (λ k. 0) (sym (zero-add l.i)) refl
+          (omega arith) (omega arith) refl (ap (row args.x) (read (goal.at.loop-i-preserved c).After-wide)) l.invariant.1,
+    )
+
+pub returns : goal.returns
+returns c =
+    let l = c.loop-i in
+    let all : l.i ≡ 994 = omega arith in
+    rw all at l.invariant.1

@@ -1,0 +1,21 @@
+-- `entered` puts the two encoders' bits in place: before turn i, i of each.
+use mathlib.Core.Path.{◌≡◌, refl, sym, ap, ◌∙◌}
+use Prim.Native.Nat.{ℕ, ◌+◌, ◌-◌, ◌≤◌}
+use native.Mathlib.Nat.{zero-add}
+use native.Mathlib.Omega.{arith}
+use lib.ListN.{get_or-replicate}
+use borrow.Author.Rules.{rules}
+use Rattle.rules.specs.Bits.{row}
+use Rattle.rules.specs.Interleaver.{table_d, interleaved}
+use Rattle.rules.specs.Slots.{second}
+use Rattle.laws.specs.Holds.{Holds}
+use Rattle.interleaver.proofs.Interleaving.{interleaved5-lt}
+use Rattle.turbo.specs.Within.{within}
+use Rattle.turbo.proofs.Within.{both_stored, unfilled}
+use Rattle.turbo.proofs.entered.Given as goal
+
+abbrev pub invariant-loop-i : goal.invariant-loop-i
+invariant-loop-i l = (l.i ≤ 994) × Holds 0 3988 (within 0 l.i (row l.x) (within 1994 l.i (second (row l.x)) (λ k. 0))) l.s
+
+abbrev pub decreases-loop-i : goal.decreases-loop-i
+decreases-loop-i l = 994 - l.i
