@@ -1,4 +1,6 @@
 // A month in whole numbers: totals over blocks, to which a receipt is added.
+#![tactic(auto)]
+
 ghost use Rattle.std.specs.Prelude.{◌≡◌, ◌<◌, T, length};
 ghost use Rattle.rules.specs.Bits.{row, every_below};
 ghost use Rattle.rules.specs.Answers.{is_reason, has_read};

@@ -1,12 +1,10 @@
 -- No block, a block that is taken, one that is refused.
 use mathlib.Core.Path.{refl, sym, subst, ◌∙◌}
 use lib.Dec.{T}
-use borrow.Author.Rules.{rules}
-use borrow.Author.Tests.{not-true, not-false}
 use Rattle.rules.specs.Totals.{is_block}
 use Rattle.adding.proofs.Counting.{plus_none}
 use Rattle.adding.proofs.Numbers.{number-no-block, taken-block}
-use Rattle.adding.proofs.add_to.Goals.{After-is_block, Else-not-is_block}
+use Rattle.adding.proofs.add_to.Goals.{Else-not-is_block}
 use Rattle.adding.proofs.add_to.Goals as goal
 
 block : (c : Else-not-is_block) → T (is_block c.args.a)
@@ -18,11 +16,11 @@ returns-then-not-is_block c =
     record { number = sym (number-no-block _ _ none); added = λ z. sym (plus_none _ _ none); kept = λ ne. absurd (ne refl) }
 
 pub number-n-requires : goal.number-n-requires
-number-n-requires c = block (goal.at.number-n-requires c).After-is_block
+number-n-requires c = block (goal.at.number-n-requires c).Else-not-is_block
 
 pub raise-requires : goal.raise-requires
 raise-requires c =
-    let there = block (goal.at.raise-requires c).After-is_block in
+    let there = block (goal.at.raise-requires c).Else-not-is_block in
     let taken = taken-block _ _ there (sym c.number-n.ensures ∙ c.if-n-eq0.true) in
     (taken.0, there, taken.2)
 

@@ -1,7 +1,6 @@
 -- The mask, then the reasons.
 use mathlib.Core.Path.{sym, ap, ap₂, ◌∙◌}
 use mathlib.Core.Bool.{Bool, ◌&&◌}
-use borrow.Author.Rules.{rules}
 use borrow.Author.Tests.{eq-eqb, ne_eqb}
 use Rattle.rules.specs.Bits.{row, every_below}
 use Rattle.rules.specs.Answers.{is_reason}

@@ -1,13 +1,9 @@
 -- At the loop's head each reason before p is one that there is.
-use mathlib.Core.Path.{◌≡◌, refl, sym, ap₂, ◌∙◌}
-use mathlib.Core.Bool.{true, ◌&&◌}
-use Prim.Native.Nat.{◌-◌, ◌≤◌}
-use native.Mathlib.Omega.{arith}
-use borrow.Author.Rules.{rules}
-use borrow.Author.Tests.{not-true, not-false}
+use mathlib.Core.Path.{◌≡◌}
+use mathlib.Core.Bool.{true}
+use Prim.Native.Nat.{◌≤◌}
 use Rattle.rules.specs.Bits.{row, every_below}
 use Rattle.rules.specs.Answers.{is_reason}
-use Rattle.laws.specs.Every.{every-next, every-fails}
 use Rattle.adding.proofs.are_reasons.Given as goal
 
 abbrev pub invariant-loop-p : goal.invariant-loop-p

@@ -1,19 +1,13 @@
 -- At the loop's head there is room in each total before i.
 use mathlib.Core.Path.{◌≡◌, refl, sym, ap₂, ◌∙◌}
-use mathlib.Core.Bool.{Bool, true, ◌&&◌}
-use mathlib.Core.List.{List}
-use mathlib.Core.Logic.{⊎_elim}
-use Prim.Native.Nat.{ℕ, ◌-◌, ◌^◌, ◌≤◌}
+use mathlib.Core.Bool.{◌&&◌}
 use native.Mathlib.Omega.{arith}
-use lib.Dec.{ltb}
 use borrow.Author.Rules.{rules}
-use Rattle.rules.specs.Bits.{row, every_below}
-use Rattle.rules.specs.Totals.{plus, fits}
-use Rattle.rules.specs.declared.Receipt.{Receipt}
+use Rattle.rules.specs.Totals.{fits}
 use Rattle.laws.specs.Every.{every-next, every-fails}
 use Rattle.adding.proofs.Counting.{full, room}
 use Rattle.adding.proofs.has_room.Invariants.{roomy}
-use Rattle.adding.proofs.has_room.Goals.{else-else-totals-i, then-else-totals-i}
+use Rattle.adding.proofs.has_room.Goals.{else-totals-i-via-else-totals-i, else-totals-i-via-then-totals-i+else-rises}
 use Rattle.adding.proofs.has_room.Goals as goal
 
 pub loop-i-init : goal.loop-i-init
@@ -40,8 +34,11 @@ loop-i-preserved c =
     let t = c.args.totals.now in
     let a = c.args.a in (
       omega arith,
-      every-next l.i (roomy t a) ∙ ap₂ ◌&&◌ l.invariant.1 (room t a l.i (omega (arith, c.requires.0)) (c.shared_slice_known-in-loop-i-1.given l.i).fits
-          (elim c.else-totals-i.branch [ then-else-totals-i w ↦ λ e. sym w.1.ensures ∙ w.2.left | else-else-totals-i w ↦ λ e. absurd (w.left e) ])),
+      every-next l.i (roomy t a) ∙ ap₂ ◌&&◌ l.invariant.1 (room t a l.i (omega (arith, c.requires.0)) (search rules)
+          (elim c.else-totals-i.branch [
+            | else-totals-i-via-then-totals-i+else-rises w ↦ λ e. sym w.rises.ensures ∙ w.if-rises.false
+            | else-totals-i-via-else-totals-i w ↦ λ e. absurd (w.if-totals-i.false e)
+          ])),
     )
 
 pub returns : goal.returns

@@ -1,17 +1,12 @@
 -- At the loop's head there is room in each total before i.
-use mathlib.Core.Path.{◌≡◌, refl, sym, ap₂, ◌∙◌}
-use mathlib.Core.Bool.{Bool, true, ◌&&◌}
+use mathlib.Core.Path.{◌≡◌}
+use mathlib.Core.Bool.{Bool, true}
 use mathlib.Core.List.{List}
-use mathlib.Core.Logic.{⊎_elim}
-use Prim.Native.Nat.{ℕ, ◌-◌, ◌^◌, ◌≤◌}
-use native.Mathlib.Omega.{arith}
+use Prim.Native.Nat.{ℕ, ◌^◌, ◌≤◌}
 use lib.Dec.{ltb}
-use borrow.Author.Rules.{rules}
 use Rattle.rules.specs.Bits.{row, every_below}
-use Rattle.rules.specs.Totals.{plus, fits}
+use Rattle.rules.specs.Totals.{plus}
 use Rattle.rules.specs.declared.Receipt.{Receipt}
-use Rattle.laws.specs.Every.{every-next, every-fails}
-use Rattle.adding.proofs.Counting.{full, room}
 use Rattle.adding.proofs.has_room.Given as goal
 
 abbrev pub roomy : List ℕ → Receipt → ℕ → Bool

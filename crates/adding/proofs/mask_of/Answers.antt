@@ -1,10 +1,8 @@
 -- At the loop's head the mask has the bits of the packets before p.
 use mathlib.Core.Path.{◌≡◌, refl, sym, ◌∙◌}
-use mathlib.Core.Logic.{⊎_elim}
-use Prim.Native.Nat.{ℕ, suc, ◌+◌, ◌-◌, ◌≤◌, ◌^◌}
+use Prim.Native.Nat.{ℕ, suc, ◌+◌, ◌≤◌, ◌^◌}
 use native.Mathlib.Omega.{arith}
 use lib.Pow.{pow_mono}
-use borrow.Author.Rules.{rules}
 use borrow.Author.Tests.{eq-eqb, ne_eqb}
 use Rattle.rules.specs.Bits.{row}
 use Rattle.rules.specs.Block.{lost_mask}
@@ -35,7 +33,10 @@ loop-p-preserved c =
     let l = c.loop-p in
     let reasons = c.args.reasons in (
       omega arith,
-      elim c.if-reasons-p-ne0.branch [ then-reasons-p-ne0 w ↦ w.1 ∙ omega (arith, l.invariant.1, room l.p (omega arith), set-bit (row reasons) l.p w.if-reasons-p-ne0.true) | else-reasons-p-ne0 w ↦ w.1 ∙ l.invariant.1 ∙ sym (no-bit (row reasons) l.p w.if-reasons-p-ne0.false) ],
+      elim c.if-reasons-p-ne0.branch [
+        | then-reasons-p-ne0 w ↦ w.lost-is ∙ omega (arith, l.invariant.1, room l.p (omega arith), set-bit (row reasons) l.p w.if-reasons-p-ne0.true)
+        | else-reasons-p-ne0 w ↦ w.lost-is ∙ l.invariant.1 ∙ sym (no-bit (row reasons) l.p w.if-reasons-p-ne0.false)
+      ],
     )
 
 pub returns : goal.returns

@@ -1,8 +1,6 @@
 -- Each way out, by its case.
 use mathlib.Core.Path.{sym, ◌∙◌}
 use lib.Ieee.Bits.{is_true}
-use borrow.Author.Rules.{rules}
-use borrow.Author.Tests.{not-true, not-false}
 use Rattle.adding.proofs.Numbers.{number-length, number-disagrees, number-full, number-taken}
 use Rattle.adding.proofs.number.Goals as goal
 

@@ -1,17 +1,13 @@
 -- At the loop's head the totals before i count the block, and the others are as they were.
 use mathlib.Core.Path.{◌≡◌, refl, sym, subst, ◌∙◌}
 use mathlib.Core.Bool.{true, false}
-use mathlib.Core.List.{List}
-use mathlib.Core.Logic.{⊎_elim}
-use Prim.Native.Nat.{ℕ, ◌+◌, ◌-◌, ◌≤◌}
+use Prim.Native.Nat.{◌+◌}
 use native.Mathlib.Omega.{arith}
-use borrow.Author.Rules.{rules}
 use Rattle.rules.specs.Bits.{row}
 use Rattle.rules.specs.Totals.{counts, plus}
-use Rattle.rules.specs.declared.Receipt.{Receipt}
 use Rattle.laws.specs.Holds.{Holds}
 use Rattle.laws.specs.Filled.{up_to, up_to-from, holds-first, holds-next, holds-skip, holds-whole}
-use Rattle.adding.proofs.Counting.{once, once_is, plus-at, fits-at, plus-holds}
+use Rattle.adding.proofs.Counting.{once_is, plus-at, fits-at, plus-holds}
 use Rattle.adding.proofs.raise.Invariants.{more}
 use Rattle.adding.proofs.raise.Goals.{else-rises, then-rises}
 use Rattle.adding.proofs.raise.Goals as goal
@@ -47,11 +43,16 @@ loop-i-preserved c =
     let counted = sym c.rises.ensures in
     let held : row l.totals l.i ≡ row t l.i = l.invariant.1.each l.i (omega arith) ∙ up_to-from (more t a) (row t) l.i l.i (omega arith) in (
       omega arith,
-      elim c.if-rises.branch [ then-rises w ↦ let rises : counts l.i a ≡ true = counted ∙ w.if-rises.true in
-          subst (Holds 0 128 (up_to (l.i + 1) (more t a) (row t))) (sym w.2)
-          (holds-next (more t a) (row t) 0 l.i (row l.totals l.i + 1) (omega arith) (omega (arith, held, once_is l.i a true rises)) l.invariant.1) | else-rises w ↦ let stays : counts l.i a ≡ false = counted ∙ w.if-rises.false in
-          subst (Holds 0 128 (up_to (l.i + 1) (more t a) (row t))) (sym w.1)
-          (holds-skip (more t a) (row t) 0 l.i (omega (arith, once_is l.i a false stays)) l.invariant.1) ],
+      elim c.if-rises.branch [
+        | then-rises w ↦
+            let rises : counts l.i a ≡ true = counted ∙ w.if-rises.true in
+            subst (Holds 0 128 (up_to (l.i + 1) (more t a) (row t))) (sym w.totals-is)
+            (holds-next (more t a) (row t) 0 l.i (row l.totals l.i + 1) (omega arith) (omega (arith, held, once_is l.i a true rises)) l.invariant.1)
+        | else-rises w ↦
+            let stays : counts l.i a ≡ false = counted ∙ w.if-rises.false in
+            subst (Holds 0 128 (up_to (l.i + 1) (more t a) (row t))) (sym w.totals-is)
+            (holds-skip (more t a) (row t) 0 l.i (omega (arith, once_is l.i a false stays)) l.invariant.1)
+      ],
     )
 
 pub shape_of-totals : goal.shape_of-totals

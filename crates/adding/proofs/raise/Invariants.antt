@@ -1,17 +1,11 @@
 -- At the loop's head the totals before i count the block, and the others are as they were.
-use mathlib.Core.Path.{◌≡◌, refl, sym, subst, ◌∙◌}
-use mathlib.Core.Bool.{true, false}
 use mathlib.Core.List.{List}
-use mathlib.Core.Logic.{⊎_elim}
-use Prim.Native.Nat.{ℕ, ◌+◌, ◌-◌, ◌≤◌}
-use native.Mathlib.Omega.{arith}
-use borrow.Author.Rules.{rules}
+use Prim.Native.Nat.{ℕ, ◌+◌, ◌≤◌}
 use Rattle.rules.specs.Bits.{row}
-use Rattle.rules.specs.Totals.{counts, plus}
 use Rattle.rules.specs.declared.Receipt.{Receipt}
 use Rattle.laws.specs.Holds.{Holds}
-use Rattle.laws.specs.Filled.{up_to, up_to-from, holds-first, holds-next, holds-skip, holds-whole}
-use Rattle.adding.proofs.Counting.{once, once_is, plus-at, fits-at, plus-holds}
+use Rattle.laws.specs.Filled.{up_to}
+use Rattle.adding.proofs.Counting.{once}
 use Rattle.adding.proofs.raise.Given as goal
 
 abbrev pub more : List ℕ → Receipt → ℕ → ℕ

@@ -3,7 +3,6 @@ use mathlib.Core.Path.{◌≡◌, sym, ap, ◌∙◌}
 use Prim.Native.Nat.{ℕ, ◌+◌, ◌-◌, ◌%◌}
 use native.Mathlib.Omega.{arith}
 use lib.Dec.{eqb}
-use borrow.Author.Rules.{rules}
 use borrow.Author.Tests.{eq-eqb, ne_eqb}
 use Rattle.adding.proofs.Counting.{counts-accepted, counts-restored, counts-undelivered, counts-reason}
 use Rattle.adding.proofs.rises.Goals as goal
@@ -32,6 +31,6 @@ pub returns-in_default : goal.returns-in_default
 returns-in_default c =
     let i = c.args.i in
     let k : ℕ = i % 8 - 3 in
-    let e : i % 8 ≡ 3 + k = omega (arith, c.in_default.in_default-own.rest) in
+    let e : i % 8 ≡ 3 + k = omega arith in
     let same : 11 + k ≡ i % 8 + 8 = omega (arith, e) in
     sym (counts-reason _ _ k c.requires.0 e (omega (arith, e)) ∙ ap (eqb _) same)
