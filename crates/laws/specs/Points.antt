@@ -2,7 +2,6 @@
 use Rattle.std.specs.Prelude.{◌≡◌, ◌⊎◌, ℕ, ◌+◌, ◌*◌, ◌<◌, Float}
 use Rattle.std.proofs.Common.{sym, ap, ap₂, subst, inl, inr, arith}
 use Rattle.rules.specs.Points.{signed, sized, part, point_of}
-use Rattle.rules.specs.declared.Point.{Point}
 
 module _ (level : Float) (s s' : ℕ → ℕ) where
   -- rows that agree below w make the same part of w bits

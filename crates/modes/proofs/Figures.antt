@@ -9,11 +9,11 @@ use native.Mathlib.Omega.{arith}
 use mir.Facts.{or_yes}
 use lib.Dec.{T, eqb, leb, ltb, eqb→eq, leb→le}
 use lib.Ieee.Fits.{and_l, and_r}
-use lib.ListN.{get_or, get_or-eq_default}
+use lib.ListN.{get_or-eq_default}
 use borrow.Author.Tests.{lt-ltb, le-ltb}
 use Rattle.rules.specs.Bits.{pick, every_below}
 use Rattle.rules.specs.Turbo.{entered, coded_length}
-use Rattle.rules.specs.Modes.{Mode, modes, mode, rate, part_bits, slot_bits, packet_bits, slots, symbols}
+use Rattle.rules.specs.Modes.{Mode, modes, mode, rate, part_bits, slot_bits, packet_bits, slots}
 use Rattle.laws.specs.Every.{every-at}
 use Rattle.laws.specs.Parts.{part-within}
 use Rattle.modes.specs.Counted.{counted}

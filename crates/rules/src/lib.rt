@@ -1,4 +1,5 @@
 // Document 01's declared types. What they mean is in specs/, which a reader has to believe; there is no code here.
+#![tactic(auto)]
 
 // The rates of the turbo code.
 #[derive(Clone, Copy)]

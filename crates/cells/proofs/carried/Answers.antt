@@ -5,7 +5,6 @@ use borrow.Author.Tests.{ltb-true, ltb-false}
 use Rattle.rules.specs.Modes.{symbols}
 use Rattle.cells.proofs.Within.{slots-lt}
 use Rattle.cells.proofs.Inverse.{carried-past}
-use borrow.Author.Rules.{rules}
 use Rattle.cells.proofs.carried.Goals as goal
 
 pub carried_in-requires : goal.carried_in-requires

@@ -5,7 +5,6 @@ use native.Mathlib.Omega.{arith}
 use Rattle.rules.specs.Cells.{point_at, slot_of}
 use Rattle.rules.specs.declared.Carried.TheVariants.{PointOf}
 use Rattle.cells.proofs.Inverse.{served, served-none, served-past, served-point}
-use borrow.Author.Rules.{rules}
 use Rattle.cells.proofs.carried_at.Goals as goal
 
 pub returns-then-slot-eq0 : goal.returns-then-slot-eq0

@@ -3,7 +3,6 @@ use mathlib.Core.Path.{sym, ◌∙◌, ap}
 use Rattle.rules.specs.Cells.{carried_at, carried}
 use Rattle.cells.specs.Spot.{belonging}
 use Rattle.cells.proofs.Inverse.{cell-belongs}
-use borrow.Author.Rules.{rules}
 use Rattle.cells.proofs.carried_in.Goals as goal
 
 pub carried_at-requires : goal.carried_at-requires

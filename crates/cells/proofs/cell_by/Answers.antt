@@ -11,7 +11,6 @@ use Rattle.modes.proofs.Figures.{part-bounds}
 use Rattle.cells.specs.Symbol.{slot_bit, level_of}
 use Rattle.cells.proofs.Inverse.{cell-carried}
 use Rattle.cells.proofs.Signs.{point-same}
-use borrow.Author.Rules.{rules}
 use Rattle.cells.proofs.cell_by.Goals.{In-PointOf}
 use Rattle.cells.proofs.cell_by.Goals as goal
 

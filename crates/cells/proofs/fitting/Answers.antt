@@ -1,8 +1,7 @@
 -- `cells::fitting` meets its contract, a test for each part.
 use mathlib.Core.Path.{sym, ◌∙◌}
 use native.Mathlib.Omega.{arith}
-use borrow.Author.Tests.{eq-eqb, ne_eqb, not-true, not-false}
-use borrow.Author.Rules.{rules}
+use borrow.Author.Tests.{eq-eqb, ne_eqb}
 use Rattle.cells.proofs.fitting.Goals as goal
 
 pub returns-then-firsts-ne4096 : goal.returns-then-firsts-ne4096

@@ -1,5 +1,4 @@
 -- `cells::in_grid` meets its contract, by the number of symbols.
-use borrow.Author.Rules.{rules}
 use Rattle.cells.proofs.in_grid.Goals as goal
 
 pub returns : goal.returns

@@ -4,7 +4,6 @@ use Prim.Native.Nat.{ℕ, ◌+◌, ◌*◌}
 use native.Mathlib.Omega.{arith}
 use Rattle.cells.specs.Symbol.{inner_of}
 use Rattle.cells.proofs.Signs.{sized-part}
-use borrow.Author.Rules.{rules}
 use Rattle.cells.proofs.part_by.Goals as goal
 
 pub returns : goal.returns

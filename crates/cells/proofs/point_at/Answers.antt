@@ -5,7 +5,6 @@ use native.Mathlib.Omega.{arith}
 use lib.ListN.{get_or}
 use Rattle.rules.specs.Cells.{point_at}
 use Rattle.cells.proofs.Inverse.{point-lt, looked}
-use borrow.Author.Rules.{rules}
 use Rattle.cells.proofs.point_at.Goals.{Start}
 use Rattle.cells.proofs.point_at.Goals as goal
 

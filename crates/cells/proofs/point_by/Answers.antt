@@ -8,7 +8,6 @@ use Rattle.rules.specs.Bits.{row}
 use Rattle.rules.specs.Points.{point_of}
 use Rattle.cells.specs.Symbol.{level_of}
 use Rattle.cells.proofs.Signs.{sized-level, sized-own, point-of-two, point-of-four}
-use borrow.Author.Rules.{rules}
 use Rattle.cells.proofs.point_by.Goals as goal
 
 pub returns-then-w-eq1 : goal.returns-then-w-eq1

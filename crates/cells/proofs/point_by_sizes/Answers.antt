@@ -1,5 +1,4 @@
 -- `cells::point_by_sizes` meets its contract, part by part.
-use borrow.Author.Rules.{rules}
 use Rattle.cells.proofs.point_by_sizes.Goals as goal
 
 pub returns : goal.returns

@@ -8,7 +8,6 @@ use Rattle.rules.specs.Points.{point_of}
 use Rattle.modes.proofs.Figures.{part-bounds}
 use Rattle.cells.specs.Symbol.{level_of}
 use Rattle.cells.proofs.Signs.{signed-level, signed-own, sized-by, point-same}
-use borrow.Author.Rules.{rules}
 use Rattle.cells.proofs.point_of.Goals as goal
 
 pub point_by-requires : goal.point_by-requires

@@ -1,5 +1,4 @@
 -- `cells::signed` meets its contract.
-use borrow.Author.Rules.{rules}
 use Rattle.cells.proofs.Signs.{signed-new}
 use Rattle.cells.proofs.signed.Goals as goal
 

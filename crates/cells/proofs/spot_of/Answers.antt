@@ -1,6 +1,5 @@
 -- `cells::spot_of` meets its contract, a law of `belongs` for each return.
 use mathlib.Core.Path.{sym}
-use borrow.Author.Rules.{rules}
 use Rattle.cells.proofs.Inverse.{belongs-below, belongs-middle, belongs-above, belongs-upper, belongs-plain}
 use Rattle.cells.proofs.spot_of.Goals.{else-c-eq0, then-c-eq0+else-c-gt2048}
 use Rattle.cells.proofs.spot_of.Goals as goal

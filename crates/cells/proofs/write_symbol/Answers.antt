@@ -1,8 +1,6 @@
 -- `cells::write_symbol` meets its contract.
 use mathlib.Core.Path.{refl, sym, ◌∙◌}
 use mathlib.Core.Bool.{true≢false}
-use borrow.Author.Tests.{not-true, not-false}
-use borrow.Author.Rules.{rules}
 use Rattle.cells.proofs.write_symbol.Goals as goal
 
 pub returns-then-not-fitting : goal.returns-then-not-fitting

@@ -2,7 +2,6 @@
 use mathlib.Core.Path.{refl, ◌∙◌, ap₂}
 use Prim.Native.Nat.{ℕ, ◌+◌, ◌*◌}
 use Rattle.deciding.proofs.Deciding.{decide-one}
-use borrow.Author.Rules.{rules}
 use Rattle.deciding.proofs.byte_of_signs.Goals as goal
 
 pub returns : goal.returns

@@ -5,7 +5,6 @@ use native.Mathlib.Omega.{arith}
 use Rattle.rules.specs.Modes.{part_bits}
 use Rattle.rules.specs.Points as points
 use Rattle.deciding.proofs.Deciding.{decide-one}
-use borrow.Author.Rules.{rules}
 use Rattle.deciding.proofs.decide.Goals as goal
 
 pub returns-then-part_bits-eq1 : goal.returns-then-part_bits-eq1

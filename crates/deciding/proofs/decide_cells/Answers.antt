@@ -7,7 +7,6 @@ use borrow.Author.Tests.{eq-eqb, ne_eqb}
 use Rattle.rules.specs.Modes.{part_bits}
 use Rattle.laws.specs.Holds.{holds_as}
 use Rattle.deciding.specs.Deciding.{byte_of, decided_byte}
-use borrow.Author.Rules.{rules}
 use Rattle.deciding.proofs.decide_cells.Goals as goal
 
 pub returns-then-firsts-out : goal.returns-then-firsts-out

@@ -1,16 +1,12 @@
 -- `deciding::decide_signs` meets its contract. The loop's invariant: the bytes of the cells before c are in.
 use mathlib.Core.Path.{◌∙◌, ap₂}
-use Prim.Native.Nat.{◌-◌, ◌≤◌}
 use native.Mathlib.Omega.{arith}
-use lib.ListN.{length}
 use Rattle.rules.specs.Bits.{row}
 use Rattle.rules.specs.Pieces.{cell_byte}
-use Rattle.laws.specs.Holds.{Holds, holds_self}
-use Rattle.laws.specs.Filled.{up_to, holds-first, holds-next, holds-whole}
+use Rattle.laws.specs.Holds.{holds_self}
+use Rattle.laws.specs.Filled.{holds-first, holds-next, holds-whole}
 use Rattle.deciding.specs.Deciding.{byte_of}
-use lib.Ieee.{Float}
 use Rattle.rules.specs.Points.{zero_part}
-use borrow.Author.Rules.{rules}
 use Rattle.deciding.proofs.decide_signs.Goals as goal
 
 pub loop-c-init : goal.loop-c-init

@@ -1,6 +1,5 @@
 -- `deciding::point_in` meets its contract: what is read within a list goes by no default.
 use lib.Ieee.{nan}
-use borrow.Author.Rules.{rules}
 use Rattle.rules.specs.Points.{zero_part}
 use Rattle.laws.specs.Lists.{any-default}
 use Rattle.deciding.proofs.point_in.Goals as goal

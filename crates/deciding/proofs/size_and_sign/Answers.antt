@@ -5,7 +5,6 @@ use native.Mathlib.Omega.{arith}
 use Rattle.rules.specs.Points.{size_of}
 use Rattle.deciding.specs.Deciding.{sign_or}
 use Rattle.deciding.proofs.Deciding.{decide-sum, decide-over}
-use borrow.Author.Rules.{rules}
 use Rattle.deciding.proofs.size_and_sign.Goals.{After-sign_of}
 use Rattle.deciding.proofs.size_and_sign.Goals as goal
 

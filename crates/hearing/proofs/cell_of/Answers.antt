@@ -1,8 +1,6 @@
 -- `hearing::cell_of` meets its contract: the upper half of interlace 0 stands 8 cells higher.
-use mathlib.Core.Logic.{⊎_elim}
 use mathlib.Core.Path.{sym}
 use native.Mathlib.Omega.{arith}
-use borrow.Author.Rules.{rules}
 use Rattle.cells.proofs.Inverse.{cell-upper, cell-plain}
 use Rattle.hearing.proofs.cell_of.Goals.{else-k-eq0, then-k-eq0+else-place-ge250}
 use Rattle.hearing.proofs.cell_of.Goals as goal

@@ -5,7 +5,6 @@ use native.Mathlib.Omega.{arith}
 use lib.ListN.{get_or}
 use Rattle.rules.specs.Cells.{place_of}
 use Rattle.cells.proofs.Inverse.{place-lt, looked}
-use borrow.Author.Rules.{rules}
 use Rattle.hearing.proofs.place_of.Goals.{Start}
 use Rattle.hearing.proofs.place_of.Goals as goal
 

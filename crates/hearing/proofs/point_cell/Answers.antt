@@ -1,6 +1,5 @@
 -- `hearing::point_cell` meets its contract: the cell of the point's interlace and place.
 use mathlib.Core.Path.{◌∙◌, ap₂}
-use borrow.Author.Rules.{rules}
 use Rattle.rules.specs.Cells.{cell_of}
 use Rattle.hearing.proofs.point_cell.Goals as goal
 

@@ -1,21 +1,11 @@
 -- `hearing::read_block` meets its contract. The loop's invariant: the slots before t are read.
-use mathlib.Core.Path.{◌≡◌, refl, sym, ◌∙◌, ap, ap₂}
-use mathlib.Core.Bool.{true≢false}
-use Prim.Native.Nat.{ℕ, ◌+◌, ◌-◌, ◌*◌, ◌<◌, ◌≤◌}
-use native.Mathlib.Nat.{mul-zero}
-use native.Mathlib.Omega.{arith}
-use lib.ListN.{length}
-use borrow.Author.Tests.{eq-eqb, ne_eqb}
+use Prim.Native.Nat.{◌*◌, ◌≤◌}
 use Rattle.rules.specs.Bits.{row}
-use Rattle.rules.specs.Modes.{slot_bits, slots, symbols}
+use Rattle.rules.specs.Modes.{slot_bits, slots}
 use Rattle.rules.specs.Block.{in_block}
 use Rattle.rules.specs.Pieces.{kept_bit}
 use Rattle.laws.specs.Holds.{Holds}
-use Rattle.laws.specs.Filled.{up_to, holds-first, holds-whole}
-use Rattle.laws.specs.Parts.{part-long, part-within, holds-part}
-use Rattle.modes.proofs.Figures.{block-most}
-use Rattle.hearing.proofs.Reading.{kept-in-block}
-use borrow.Author.Rules.{rules}
+use Rattle.laws.specs.Filled.{up_to}
 use Rattle.hearing.proofs.read_block.Given as goal
 
 abbrev pub invariant-loop-t : goal.invariant-loop-t

@@ -6,7 +6,6 @@ use Rattle.rules.specs.Bits.{row}
 use Rattle.rules.specs.Modes.{part_bits}
 use Rattle.modes.proofs.Figures.{figures, part-bounds}
 use Rattle.hearing.proofs.Reading.{slot_read}
-use borrow.Author.Rules.{rules}
 use Rattle.hearing.proofs.read_slot.Goals.{Else-w-eq1}
 use Rattle.hearing.proofs.read_slot.Goals as goal
 

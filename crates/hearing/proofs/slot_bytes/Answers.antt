@@ -1,10 +1,9 @@
 -- `hearing::slot_bytes` meets its contract. The loop's invariant: the bytes of the slot's first i points are in.
 use mathlib.Core.Path.{ap}
-use Prim.Native.Nat.{ℕ, ◌+◌, ◌-◌, ◌*◌, ◌/◌, ◌≤◌}
+use Prim.Native.Nat.{ℕ, ◌+◌, ◌*◌, ◌/◌}
 use native.Mathlib.Omega.{arith}
 use Rattle.rules.specs.Bits.{row}
-use Rattle.laws.specs.Holds.{Holds}
-use Rattle.laws.specs.Filled.{up_to, holds-new, holds-next, holds-whole}
+use Rattle.laws.specs.Filled.{holds-new, holds-next, holds-whole}
 use Rattle.hearing.specs.Reading.{point_byte}
 use Rattle.cells.proofs.Within.{slots-lt}
 use Rattle.hearing.proofs.Reading.{grid-cell-lt}

@@ -1,13 +1,9 @@
 -- `hearing::spread_signs` meets its contract. The loop's invariant: the bits of the first i bytes are in.
-use mathlib.Core.Path.{refl}
-use Prim.Native.Nat.{◌+◌, ◌*◌, ◌-◌, ◌≤◌}
-use native.Mathlib.Omega.{arith}
-use lib.ListN.{length-set}
+use Prim.Native.Nat.{◌*◌, ◌≤◌}
 use Rattle.rules.specs.Bits.{row}
 use Rattle.laws.specs.Holds.{Holds}
-use Rattle.laws.specs.Filled.{up_to, holds-first, holds-whole}
+use Rattle.laws.specs.Filled.{up_to}
 use Rattle.hearing.specs.Reading.{spread_bit}
-use Rattle.hearing.proofs.Reading.{spread-next, only-sure}
 use Rattle.hearing.proofs.spread_signs.Given as goal
 
 abbrev pub invariant-loop-i : goal.invariant-loop-i

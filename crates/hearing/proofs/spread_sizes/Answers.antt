@@ -1,11 +1,10 @@
 -- `hearing::spread_sizes` meets its contract. The loop's invariant: the bits of the first i bytes are in.
 use mathlib.Core.Path.{refl}
-use Prim.Native.Nat.{◌+◌, ◌*◌, ◌-◌, ◌≤◌}
+use Prim.Native.Nat.{◌+◌, ◌*◌}
 use native.Mathlib.Omega.{arith}
 use lib.ListN.{length-set}
 use Rattle.rules.specs.Bits.{row}
-use Rattle.laws.specs.Holds.{Holds}
-use Rattle.laws.specs.Filled.{up_to, holds-first, holds-whole}
+use Rattle.laws.specs.Filled.{holds-first, holds-whole}
 use Rattle.hearing.specs.Reading.{spread_bit}
 use Rattle.hearing.proofs.Reading.{spread-next}
 use Rattle.hearing.proofs.spread_sizes.Goals as goal

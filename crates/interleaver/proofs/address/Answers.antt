@@ -7,7 +7,6 @@ use lib.Dec.{ltb→lt}
 use Rattle.rules.specs.Bits.{row}
 use Rattle.rules.specs.Interleaver.{table_d, address}
 use Rattle.laws.specs.Every.{every-at}
-use borrow.Author.Rules.{rules}
 use Rattle.interleaver.proofs.address.Goals as goal
 
 small : (i : ℕ) → i < 32 → row table_d i < 32

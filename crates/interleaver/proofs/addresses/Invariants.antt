@@ -1,16 +1,11 @@
 -- `addresses` fills the addresses in turn: where the loop stands, the rule's next counter is that of address i.
-use mathlib.Core.Path.{◌≡◌, refl, ap, ◌∙◌}
-use Prim.Native.Nat.{ℕ, suc, ◌+◌, ◌-◌, ◌≤◌, ◌<◌}
-use native.Mathlib.Numerals.{add-one}
-use native.Mathlib.Omega.{arith}
+use mathlib.Core.Path.{◌≡◌}
+use Prim.Native.Nat.{ℕ, ◌≤◌, ◌<◌}
 use mathlib.Core.List.{List}
-use lib.ListN.{length, get_or, set, length-set}
-use lib.Seq.{get_or-set_same, get_or-set_other}
-use borrow.Author.Count.{below_more}
+use lib.ListN.{length, get_or}
 use Rattle.rules.specs.Bits.{row}
 use Rattle.rules.specs.Kept.{next_kept, counter}
 use Rattle.rules.specs.Interleaver.{table_d, address, interleaved}
-use Rattle.interleaver.proofs.Interleaving.{counter5-lt}
 use Rattle.interleaver.proofs.addresses.Given as goal
 
 -- the first i addresses are in, and the counter of the i-th is the next that is kept

@@ -4,7 +4,6 @@ use Prim.Native.Nat.{ℕ, suc, ◌+◌, ◌-◌, ◌≤◌, ◌<◌}
 use native.Mathlib.Omega.{arith}
 use borrow.Author.Tests.{lt-ltb, le-ltb}
 use Rattle.rules.specs.Bits.{row}
-use Rattle.rules.specs.Kept.{next_kept}
 use Rattle.rules.specs.Interleaver.{table_d, address}
 use Rattle.interleaver.proofs.Interleaving.{next_here, next-later, next_le}
 use Rattle.interleaver.proofs.next_kept.Invariants.{next, Finds}

@@ -1,12 +1,9 @@
 -- `next_kept` finds the rule's next counter: from the loop's counter, in the turns that are left, the rule finds what it finds from m.
-use mathlib.Core.Path.{◌≡◌, sym, ap, ap₂, ◌∙◌}
-use Prim.Native.Nat.{ℕ, suc, ◌+◌, ◌-◌, ◌≤◌, ◌<◌}
-use native.Mathlib.Omega.{arith}
-use borrow.Author.Tests.{lt-ltb, le-ltb}
+use mathlib.Core.Path.{◌≡◌}
+use Prim.Native.Nat.{ℕ, ◌+◌, ◌-◌, ◌<◌}
 use Rattle.rules.specs.Bits.{row}
 use Rattle.rules.specs.Kept.{next_kept}
 use Rattle.rules.specs.Interleaver.{table_d, address}
-use Rattle.interleaver.proofs.Interleaving.{next_here, next-later, next_le}
 use Rattle.interleaver.proofs.next_kept.Given as goal
 
 abbrev pub next : ℕ → ℕ → ℕ

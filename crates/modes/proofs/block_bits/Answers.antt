@@ -1,7 +1,6 @@
 -- A block's packets fill its slots.
 use native.Mathlib.Omega.{arith}
 use Rattle.modes.proofs.Figures.{figures}
-use borrow.Author.Rules.{rules}
 use Rattle.modes.proofs.block_bits.Goals as goal
 
 pub returns : goal.returns

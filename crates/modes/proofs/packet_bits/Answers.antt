@@ -5,7 +5,6 @@ use native.Mathlib.Omega.{arith}
 use Rattle.rules.specs.Turbo.{entered, coded_length}
 use Rattle.rules.specs.Modes.{rate, packet_bits}
 use Rattle.rules.specs.declared.Rate.{Rate}
-use borrow.Author.Rules.{rules}
 use Rattle.modes.proofs.packet_bits.Goals as goal
 
 bits_of : (m : ℕ) (R : Rate) → R ≡ rate m → coded_length R entered ≡ packet_bits m

@@ -1,9 +1,6 @@
 -- The first two modes are QPSK's.
-use mathlib.Core.Path.{◌≡◌}
-use Prim.Native.Nat.{ℕ, ◌<◌}
 use native.Mathlib.Omega.{arith}
 use Rattle.modes.proofs.Figures.{qpsk, qam}
-use borrow.Author.Rules.{rules}
 use Rattle.modes.proofs.part_bits.Goals as goal
 
 pub returns-then-counted-lt2 : goal.returns-then-counted-lt2

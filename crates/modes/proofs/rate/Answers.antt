@@ -6,7 +6,6 @@ use native.Mathlib.Omega.{arith}
 use Rattle.rules.specs.Modes.{mode, rate}
 use Rattle.rules.specs.declared.Rate.TheVariants.{Half}
 use Rattle.modes.proofs.Figures.{rate-counted}
-use borrow.Author.Rules.{rules}
 use Rattle.modes.proofs.rate.Goals as goal
 
 pub returns-in-0 : goal.returns-in-0

@@ -1,7 +1,6 @@
 -- A slot has 1000 parts.
 use native.Mathlib.Omega.{arith}
 use Rattle.modes.proofs.Figures.{figures}
-use borrow.Author.Rules.{rules}
 use Rattle.modes.proofs.slot_bits.Goals as goal
 
 pub returns : goal.returns

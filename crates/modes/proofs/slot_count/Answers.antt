@@ -4,7 +4,6 @@ use Prim.Native.Nat.{ℕ, ◌*◌, ◌/◌}
 use native.Mathlib.Omega.{arith}
 use Rattle.rules.specs.Modes.{packet_bits, slot_bits, slots}
 use Rattle.modes.proofs.Figures.{figures}
-use borrow.Author.Rules.{rules}
 use Rattle.modes.proofs.slot_count.Goals as goal
 
 slots-are : (m a b : ℕ) → a ≡ packet_bits m → b ≡ slot_bits m → 16 * a / b ≡ slots m

@@ -1,5 +1,4 @@
 -- One test more, after those that held.
-use borrow.Author.Rules.{rules}
 use Rattle.packet.proofs.also_same.Goals as goal
 
 pub returns-then-ok : goal.returns-then-ok

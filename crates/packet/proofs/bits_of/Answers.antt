@@ -1,11 +1,10 @@
 -- The loop's invariant: the data bits and i bits of the check word are there, and what followed them is still as it was.
 use mathlib.Core.Path.{◌≡◌, sym, ap, ◌∙◌}
 use mathlib.Core.List.{List}
-use Prim.Native.Nat.{ℕ, ◌+◌, ◌≤◌, ◌<◌, ◌-◌}
+use Prim.Native.Nat.{ℕ, ◌+◌, ◌<◌, ◌-◌}
 use native.Mathlib.Decide.{dec_lt}
 use native.Mathlib.Omega.{arith}
 use lib.ListN.{length}
-use borrow.Author.Rules.{rules}
 use Rattle.rules.specs.Bits.{row, bit_of, byte_bit}
 use Rattle.rules.specs.Packet.{packet_bit, check_word}
 use Rattle.laws.specs.Holds.{Holds, holds_as}

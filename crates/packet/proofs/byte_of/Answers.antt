@@ -1,6 +1,6 @@
 -- The loop's invariant: b is the number of the first i bits.
 use mathlib.Core.Path.{◌≡◌, refl, ap, ◌∙◌}
-use Prim.Native.Nat.{ℕ, ◌+◌, ◌*◌, ◌%◌, ◌^◌, ◌≤◌, ◌<◌, ◌-◌}
+use Prim.Native.Nat.{ℕ, ◌+◌, ◌*◌, ◌%◌, ◌≤◌, ◌<◌}
 use native.Mathlib.Numerals.{add-one}
 use native.Mathlib.Omega.{arith}
 use lib.Pow.{pow_mono}
@@ -29,8 +29,7 @@ overflow_add-b-in-loop-i c = omega (arith, small (goal.at.overflow_add-b-in-loop
 pub loop-i-preserved : goal.loop-i-preserved
 unfolding number
 loop-i-preserved c =
-    let l = c.loop-i in
-    (
+    let l = c.loop-i in (
       omega arith,
       rw (add-one l.i) (omega arith),
       rw (add-one l.i) (ap (λ (b : ℕ). b * 2 + row c.args.x.now (8 * c.args.j + l.i) % 2) l.invariant.2),

@@ -1,11 +1,8 @@
 -- The loop's invariant: b is the number of the first i bits.
-use mathlib.Core.Path.{◌≡◌, refl, ap, ◌∙◌}
-use Prim.Native.Nat.{ℕ, ◌+◌, ◌*◌, ◌%◌, ◌^◌, ◌≤◌, ◌<◌, ◌-◌}
-use native.Mathlib.Numerals.{add-one}
-use native.Mathlib.Omega.{arith}
-use lib.Pow.{pow_mono}
+use mathlib.Core.Path.{◌≡◌}
+use Prim.Native.Nat.{◌+◌, ◌*◌, ◌%◌, ◌^◌, ◌≤◌, ◌<◌, ◌-◌}
 use Rattle.rules.specs.Bits.{row}
-use Rattle.packet.proofs.Number.{number, number-byte}
+use Rattle.packet.proofs.Number.{number}
 use Rattle.packet.proofs.byte_of.Given as goal
 
 abbrev pub invariant-loop-i : goal.invariant-loop-i

@@ -1,12 +1,6 @@
 -- `bytes_of` makes the bytes: before turn j, j of them.
-use mathlib.Core.List.{List}
-use Prim.Native.Nat.{ℕ, ◌-◌, ◌%◌, ◌≤◌}
 use native.Mathlib.Omega.{arith}
-use borrow.Author.Rules.{rules}
-use Rattle.rules.specs.Bits.{row}
-use Rattle.laws.specs.Holds.{Holds}
-use Rattle.laws.specs.Filled.{up_to, holds-new, holds-next, holds-whole}
-use Rattle.rules.specs.Block.{byte_of}
+use Rattle.laws.specs.Filled.{holds-new, holds-next, holds-whole}
 use Rattle.packet.proofs.bytes_of.Invariants.{byte}
 use Rattle.packet.proofs.bytes_of.Goals as goal
 

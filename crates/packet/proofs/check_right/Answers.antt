@@ -1,12 +1,11 @@
 -- The loop's invariant: ok says whether the first i check bits are right.
 use mathlib.Core.Path.{◌≡◌, refl, ap, ap₂, ◌∙◌}
 use mathlib.Core.Bool.{Bool, ◌&&◌}
-use Prim.Native.Nat.{ℕ, ◌+◌, ◌≤◌, ◌-◌}
+use Prim.Native.Nat.{ℕ, ◌+◌}
 use native.Mathlib.Numerals.{add-one}
 use native.Mathlib.Omega.{arith}
 use lib.Dec.{eqb}
-use borrow.Author.Rules.{rules}
-use Rattle.rules.specs.Bits.{row, bit_of, every_below}
+use Rattle.rules.specs.Bits.{row, every_below}
 use Rattle.packet.proofs.check_right.Invariants.{right}
 use Rattle.packet.proofs.check_right.Goals as goal
 

@@ -2,7 +2,6 @@
 use mathlib.Core.Path.{◌≡◌, sym}
 use Prim.Native.Nat.{◌+◌, ◌*◌, ◌/◌, ◌%◌}
 use native.Mathlib.Omega.{arith}
-use borrow.Author.Rules.{rules}
 use lib.Bits.{xor_zero_r}
 use Rattle.rules.specs.Packet.{check_step}
 use Rattle.packet.proofs.check_step.Goals as goal

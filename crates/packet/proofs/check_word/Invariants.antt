@@ -1,10 +1,8 @@
 -- The loop's invariant: the register is the rule's after i bits.
-use mathlib.Core.Path.{◌≡◌, refl, ap, ◌∙◌}
-use Prim.Native.Nat.{ℕ, ◌≤◌, ◌-◌}
-use native.Mathlib.Numerals.{add-one}
-use native.Mathlib.Omega.{arith}
+use mathlib.Core.Path.{◌≡◌}
+use Prim.Native.Nat.{◌≤◌, ◌-◌}
 use Rattle.rules.specs.Bits.{row}
-use Rattle.rules.specs.Packet.{check_step, check_register, check_word}
+use Rattle.rules.specs.Packet.{check_register}
 use Rattle.packet.proofs.check_word.Given as goal
 
 abbrev pub invariant-loop-i : goal.invariant-loop-i

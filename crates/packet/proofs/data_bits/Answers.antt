@@ -1,11 +1,9 @@
 -- The loop's invariant: the first i bits are the packet's, and zeros follow.
 use mathlib.Core.Path.{◌≡◌, sym, ◌∙◌}
-use Prim.Native.Nat.{◌≤◌, ◌-◌}
 use native.Mathlib.Omega.{arith}
 use Rattle.rules.specs.Bits.{row}
 use Rattle.rules.specs.Packet.{packet_bit}
-use Rattle.laws.specs.Holds.{Holds}
-use Rattle.laws.specs.Filled.{up_to, holds-new, holds-next}
+use Rattle.laws.specs.Filled.{holds-new, holds-next}
 use Rattle.packet.proofs.Bits.{data-bit}
 use Rattle.packet.proofs.data_bits.Goals as goal
 

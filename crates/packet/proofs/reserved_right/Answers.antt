@@ -1,5 +1,4 @@
 -- Both tests hold, or the first fails.
-use borrow.Author.Rules.{rules}
 use borrow.Author.Tests.{eq-eqb, ne_eqb}
 use Rattle.rules.specs.Bits.{row}
 use Rattle.packet.proofs.reserved_right.Goals as goal

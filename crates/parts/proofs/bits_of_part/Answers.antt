@@ -1,7 +1,6 @@
 -- `parts::bits_of_part` meets its contract: only `nan` differs from itself, and its pattern is the one written.
 use mathlib.Core.Path.{◌≡◌, refl, sym, ◌∙◌, ap, subst}
 use mathlib.Core.Bool.{true, false, not}
-use borrow.Author.Rules.{rules}
 use lib.Dec.{T}
 use lib.Ieee.{Float, nan, inf, fin, binary32, ne, is_nan, to_bits}
 use lib.Ieee.Compare.{differs_from_itself, nan_differs}

@@ -1,6 +1,5 @@
 -- `data_place` goes by the rate.
 use mathlib.Core.Path.{refl}
-use borrow.Author.Rules.{rules}
 use Rattle.patterns.proofs.data_place.Goals as goal
 
 pub returns-in-Half : goal.returns-in-Half

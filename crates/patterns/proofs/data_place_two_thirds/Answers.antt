@@ -1,6 +1,5 @@
 -- The first bit of a pattern stands at its beginning, another after Y0.
 use native.Mathlib.Omega.{arith}
-use borrow.Author.Rules.{rules}
 use borrow.Author.Tests.{eq-eqb, ne_eqb}
 use Rattle.patterns.proofs.data_place_two_thirds.Goals as goal
 

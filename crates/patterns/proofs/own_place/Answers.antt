@@ -2,7 +2,6 @@
 use mathlib.Core.Path.{◌≡◌, refl}
 use Prim.Native.Nat.{ℕ, ◌+◌, ◌*◌, ◌/◌, ◌%◌, ◌<◌}
 use native.Mathlib.Omega.{arith}
-use borrow.Author.Rules.{rules}
 use Rattle.rules.specs.Interleaver.{bit_deinterleaved}
 use Rattle.rules.specs.Turbo.{coded_length, data_place}
 use Rattle.patterns.proofs.Modes.{own-lt, own-sent-lt}

@@ -1,12 +1,8 @@
 -- `own_places` works them out one after the other: before turn i, i of them.
-use mathlib.Core.Path.{◌∙◌}
-use Prim.Native.Nat.{◌-◌, ◌≤◌}
-use native.Mathlib.Omega.{arith}
-use borrow.Author.Rules.{rules}
+use Prim.Native.Nat.{◌≤◌}
 use Rattle.laws.specs.Holds.{Holds}
-use Rattle.laws.specs.Filled.{up_to, holds-new, holds-next, holds-whole}
+use Rattle.laws.specs.Filled.{up_to}
 use Rattle.patterns.specs.Places.{own_place}
-use Rattle.patterns.proofs.Modes.{rate-quarters, rate-own}
 use Rattle.patterns.proofs.own_places.Given as goal
 
 abbrev pub invariant-loop-i : goal.invariant-loop-i

@@ -1,7 +1,6 @@
 -- `place` goes by the rate, of which the three arms say the same.
 use mathlib.Core.Path.{◌≡◌, sym, ap, subst, ◌∙◌}
 use Prim.Native.Nat.{ℕ, ◌<◌}
-use borrow.Author.Rules.{rules}
 use Rattle.rules.specs.Turbo.{coded_length}
 use Rattle.rules.specs.declared.Rate.{Rate}
 use Rattle.patterns.specs.Places.{place}

@@ -1,7 +1,6 @@
 -- `place_third` answers the rate's place: its tables pass a computed test against the rate's pattern and tail.
 use Prim.Native.Nat.{◌/◌}
 use native.Mathlib.Omega.{arith}
-use borrow.Author.Rules.{rules}
 use Rattle.rules.specs.declared.Rate.TheVariants.{Third}
 use Rattle.patterns.proofs.Rates.{entry-is, place-by-data, place-by-half-tail}
 use Rattle.patterns.proofs.place_third.Goals as goal

@@ -1,14 +1,8 @@
 -- `places` works the places out one after the other: before turn i, i of them.
-use mathlib.Core.Path.{◌≡◌, ◌∙◌}
-use Prim.Native.Nat.{◌-◌, ◌≤◌}
-use native.Mathlib.Omega.{arith}
-use borrow.Author.Rules.{rules}
-use Rattle.rules.specs.Modes.{packet_bits}
+use Prim.Native.Nat.{◌≤◌}
 use Rattle.laws.specs.Holds.{Holds}
-use Rattle.laws.specs.Filled.{up_to, holds-new, holds-next}
-use Rattle.modes.proofs.Figures.{figures}
+use Rattle.laws.specs.Filled.{up_to}
 use Rattle.patterns.specs.Places.{sent_place}
-use Rattle.patterns.proofs.Modes.{rate-quarters, rate-sent}
 use Rattle.patterns.proofs.places.Given as goal
 
 abbrev pub invariant-loop-i : goal.invariant-loop-i

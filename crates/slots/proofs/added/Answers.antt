@@ -1,5 +1,4 @@
 -- `slots::added` meets its contract.
-use borrow.Author.Rules.{rules}
 use native.Mathlib.Omega.{arith}
 use borrow.Author.Tests.{eq-eqb, ne_eqb}
 use Rattle.slots.proofs.added.Goals as goal

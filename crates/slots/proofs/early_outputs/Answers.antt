@@ -1,10 +1,6 @@
 -- `slots::early_outputs` meets its contract. The loop's invariant: the first i outputs are there.
 use mathlib.Core.Path.{◌≡◌}
-use Prim.Native.Nat.{◌-◌, ◌≤◌}
 use native.Mathlib.Omega.{arith}
-use Rattle.rules.specs.Slots.{scrambling}
-use Rattle.laws.specs.Holds.{Holds}
-use Rattle.laws.specs.Filled.{up_to}
 use Rattle.slots.proofs.Twice.{scrambling-lt}
 use Rattle.slots.proofs.Recurrence.{recurrence, holds-sum}
 use Rattle.slots.proofs.early_outputs.Goals as goal

@@ -1,12 +1,9 @@
 -- `slots::first_outputs` meets its contract. After i turns the first i outputs are there, and the state is the scrambler's after i steps.
-use mathlib.Core.Path.{◌≡◌, refl, ◌∙◌, ap}
-use Prim.Native.Nat.{ℕ, ◌+◌, ◌-◌, ◌%◌, ◌^◌, ◌<◌, ◌≤◌}
-use native.Mathlib.Numerals.{add-one}
-use native.Mathlib.Omega.{arith}
-use Rattle.rules.specs.Slots.{both, scrambler_step, scrambler_state, scrambling}
+use mathlib.Core.Path.{◌≡◌}
+use Prim.Native.Nat.{◌-◌, ◌^◌, ◌<◌, ◌≤◌}
+use Rattle.rules.specs.Slots.{scrambler_state, scrambling}
 use Rattle.laws.specs.Holds.{Holds}
-use Rattle.laws.specs.Filled.{up_to, holds-new, holds-next}
-use Rattle.slots.proofs.Twice.{state-lt}
+use Rattle.laws.specs.Filled.{up_to}
 use Rattle.slots.proofs.first_outputs.Given as goal
 
 abbrev pub invariant-loop-i : goal.invariant-loop-i

@@ -1,10 +1,8 @@
 -- `slots::outputs` meets its contract. The loop's invariant: the first i outputs are there.
 use mathlib.Core.Path.{◌∙◌}
-use Prim.Native.Nat.{◌-◌, ◌≤◌}
 use native.Mathlib.Omega.{arith}
 use Rattle.rules.specs.Slots.{scrambling}
-use Rattle.laws.specs.Holds.{Holds}
-use Rattle.laws.specs.Filled.{up_to, up_to-below}
+use Rattle.laws.specs.Filled.{up_to-below}
 use Rattle.slots.proofs.Twice.{scrambling-lt}
 use Rattle.slots.proofs.Recurrence.{recurrence-4, holds-sum}
 use Rattle.slots.proofs.outputs.Goals as goal

@@ -1,18 +1,12 @@
 -- `slots::scramble` meets its contract. After i turns the first i bits are scrambled; there are as many turns as the slot has bits here.
-use mathlib.Core.Path.{◌≡◌, sym, ◌∙◌, ap₂}
 use mathlib.Core.List.{List}
-use Prim.Native.Nat.{ℕ, ◌-◌, ◌<◌, ◌≤◌, min}
-use native.Mathlib.Decide.{dec_lt}
-use native.Mathlib.Nat.{le_refl}
-use native.Mathlib.Omega.{arith}
+use Prim.Native.Nat.{ℕ, ◌-◌, ◌≤◌}
 use lib.ListN.{length}
 use Rattle.rules.specs.Bits.{row}
 use Rattle.rules.specs.Slots.{scrambling}
 use Rattle.rules.specs.Block.{unscrambled}
-use Rattle.laws.specs.Holds.{Holds, holds_self, holds_as}
-use Rattle.laws.specs.Filled.{up_to, up_to-below, up_to-from, holds-first, holds-next}
-use Rattle.slots.proofs.Twice.{scrambling-lt}
-use Rattle.slots.proofs.Seed.{scrambling-low}
+use Rattle.laws.specs.Holds.{Holds}
+use Rattle.laws.specs.Filled.{up_to}
 use Rattle.slots.proofs.scramble.Given as goal
 
 -- what bit k becomes

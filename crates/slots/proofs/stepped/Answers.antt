@@ -1,6 +1,5 @@
 -- `slots::stepped` meets its contract.
 use mathlib.Core.Path.{refl}
-use borrow.Author.Rules.{rules}
 use Rattle.rules.specs.Slots.{scrambler_step}
 use Rattle.slots.proofs.stepped.Goals as goal
 

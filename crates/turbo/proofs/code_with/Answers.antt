@@ -2,7 +2,6 @@
 use mathlib.Core.Path.{◌∙◌}
 use Prim.Native.Nat.{ℕ}
 use native.Mathlib.Omega.{arith}
-use borrow.Author.Rules.{rules}
 use Rattle.rules.specs.Bits.{row}
 use Rattle.rules.specs.Packet.{packet_bit}
 use Rattle.rules.specs.Slots.{coded}

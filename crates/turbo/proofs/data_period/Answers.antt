@@ -1,6 +1,5 @@
 -- `data_period` puts out what the bit makes of the register.
 use mathlib.Core.Path.{refl}
-use borrow.Author.Rules.{rules}
 use Rattle.turbo.proofs.data_period.Goals as goal
 
 pub returns : goal.returns

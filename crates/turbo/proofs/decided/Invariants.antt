@@ -1,12 +1,9 @@
 -- Each bit is read at its place: before turn i, i of them.
-use mathlib.Core.Path.{ap}
 use mathlib.Core.List.{List}
 use Prim.Native.Nat.{ℕ, ◌-◌, ◌≤◌}
-use native.Mathlib.Omega.{arith}
-use borrow.Author.Rules.{rules}
 use Rattle.rules.specs.Bits.{row}
 use Rattle.laws.specs.Holds.{Holds}
-use Rattle.laws.specs.Filled.{up_to, holds-new, holds-next, holds-whole}
+use Rattle.laws.specs.Filled.{up_to}
 use Rattle.turbo.proofs.decided.Given as goal
 
 abbrev pub taken : List ℕ → List ℕ → ℕ → ℕ

@@ -1,13 +1,13 @@
 -- `encoded` fills in the four streams: before turn i, i parities of both encoders and their registers' states are there.
 use mathlib.Core.Path.{◌≡◌, refl, sym, ap, ap₂, ◌∙◌}
-use Prim.Native.Nat.{ℕ, ◌+◌, ◌-◌, ◌<◌, ◌≤◌}
+use Prim.Native.Nat.{ℕ, ◌+◌}
 use native.Mathlib.Omega.{arith}
 use borrow.Author.Rules.{rules}
 use Rattle.rules.specs.Bits.{row}
 use Rattle.rules.specs.Turbo.{parity_of, shift, entering, state, y0}
 use Rattle.laws.specs.Holds.{Holds, holds_as}
 use Rattle.turbo.specs.Streams.{stream}
-use Rattle.turbo.specs.Within.{within, from, with_ends}
+use Rattle.turbo.specs.Within.{from, with_ends}
 use Rattle.turbo.proofs.Within.{within-before, within-after, both_stored, unfilled}
 use Rattle.turbo.proofs.Filling.{state-next, both-streams}
 use Rattle.turbo.proofs.encoded.Invariants.{walked}

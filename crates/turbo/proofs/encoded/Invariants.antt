@@ -1,15 +1,10 @@
 -- `encoded` fills in the four streams: before turn i, i parities of both encoders and their registers' states are there.
-use mathlib.Core.Path.{◌≡◌, refl, sym, ap, ap₂, ◌∙◌}
-use Prim.Native.Nat.{ℕ, ◌+◌, ◌-◌, ◌<◌, ◌≤◌}
-use native.Mathlib.Omega.{arith}
-use borrow.Author.Rules.{rules}
+use mathlib.Core.Path.{◌≡◌}
+use Prim.Native.Nat.{ℕ, ◌-◌, ◌<◌, ◌≤◌}
 use Rattle.rules.specs.Bits.{row}
-use Rattle.rules.specs.Turbo.{parity_of, shift, entering, state, y0}
-use Rattle.laws.specs.Holds.{Holds, holds_as}
-use Rattle.turbo.specs.Streams.{stream}
-use Rattle.turbo.specs.Within.{within, from, with_ends}
-use Rattle.turbo.proofs.Within.{within-before, within-after, both_stored, unfilled}
-use Rattle.turbo.proofs.Filling.{state-next, both-streams}
+use Rattle.rules.specs.Turbo.{state, y0}
+use Rattle.laws.specs.Holds.{Holds}
+use Rattle.turbo.specs.Within.{within, from}
 use Rattle.turbo.proofs.encoded.Given as goal
 
 -- the parities of the first i bits, where g has the bits of both encoders

@@ -1,13 +1,12 @@
 -- `ended` writes the ends of two streams: before turn k, k elements of each.
 use mathlib.Core.Path.{◌≡◌, refl, sym, ap, ◌∙◌}
-use Prim.Native.Nat.{ℕ, ◌+◌, ◌-◌, ◌<◌, ◌≤◌}
+use Prim.Native.Nat.{ℕ, ◌+◌}
 use native.Mathlib.Numerals.{add-one}
 use native.Mathlib.Omega.{arith}
 use borrow.Author.Rules.{rules}
 use Rattle.rules.specs.Bits.{row}
 use Rattle.rules.specs.Turbo.{feedback, parity_of, shift}
-use Rattle.laws.specs.Holds.{Holds}
-use Rattle.turbo.specs.Within.{within, after_zeros}
+use Rattle.turbo.specs.Within.{after_zeros}
 use Rattle.turbo.proofs.Within.{both_stored, unfilled}
 use Rattle.turbo.proofs.ended.Invariants.{last_x, last_y0}
 use Rattle.turbo.proofs.ended.Goals as goal

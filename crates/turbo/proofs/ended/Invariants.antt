@@ -1,14 +1,10 @@
 -- `ended` writes the ends of two streams: before turn k, k elements of each.
-use mathlib.Core.Path.{◌≡◌, refl, sym, ap, ◌∙◌}
+use mathlib.Core.Path.{◌≡◌}
 use Prim.Native.Nat.{ℕ, ◌+◌, ◌-◌, ◌<◌, ◌≤◌}
-use native.Mathlib.Numerals.{add-one}
-use native.Mathlib.Omega.{arith}
-use borrow.Author.Rules.{rules}
 use Rattle.rules.specs.Bits.{row}
-use Rattle.rules.specs.Turbo.{feedback, parity_of, shift}
+use Rattle.rules.specs.Turbo.{feedback, parity_of}
 use Rattle.laws.specs.Holds.{Holds}
 use Rattle.turbo.specs.Within.{within, after_zeros}
-use Rattle.turbo.proofs.Within.{both_stored, unfilled}
 use Rattle.turbo.proofs.ended.Given as goal
 
 abbrev pub last_x : ℕ → ℕ → ℕ

@@ -1,6 +1,6 @@
 -- `entered` puts the two encoders' bits in place: before turn i, i of each.
 use mathlib.Core.Path.{◌≡◌, refl, sym, ap, ◌∙◌}
-use Prim.Native.Nat.{ℕ, ◌+◌, ◌-◌, ◌≤◌}
+use Prim.Native.Nat.{ℕ, ◌+◌}
 use native.Mathlib.Nat.{zero-add}
 use native.Mathlib.Omega.{arith}
 use lib.ListN.{get_or-replicate}
@@ -8,9 +8,7 @@ use borrow.Author.Rules.{rules}
 use Rattle.rules.specs.Bits.{row}
 use Rattle.rules.specs.Interleaver.{table_d, interleaved}
 use Rattle.rules.specs.Slots.{second}
-use Rattle.laws.specs.Holds.{Holds}
 use Rattle.interleaver.proofs.Interleaving.{interleaved5-lt}
-use Rattle.turbo.specs.Within.{within}
 use Rattle.turbo.proofs.Within.{both_stored, unfilled}
 use Rattle.turbo.proofs.entered.Goals.{After-wide}
 use Rattle.turbo.proofs.entered.Goals as goal

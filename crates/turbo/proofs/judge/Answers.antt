@@ -1,6 +1,5 @@
 -- The tables are made, and there are as many bits as a packet of any mode has.
 use native.Mathlib.Omega.{arith}
-use borrow.Author.Rules.{rules}
 use Rattle.modes.proofs.Figures.{figures}
 use Rattle.turbo.proofs.judge.Goals as goal
 

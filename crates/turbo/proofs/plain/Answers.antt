@@ -1,12 +1,10 @@
 -- `plain` looks at each bit: before turn i, at i of them.
 use mathlib.Core.Path.{◌≡◌, refl, sym, ap, ◌∙◌}
 use mathlib.Core.Bool.{Bool, ◌&&◌}
-use Prim.Native.Nat.{ℕ, ◌-◌, ◌≤◌}
+use Prim.Native.Nat.{ℕ}
 use native.Mathlib.Omega.{arith}
-use borrow.Author.Rules.{rules}
 use lib.Dec.{ltb}
 use Rattle.rules.specs.Bits.{row}
-use Rattle.turbo.specs.Coded.{plain_bits}
 use Rattle.laws.specs.Every.{every-next}
 use Rattle.turbo.proofs.plain.Goals as goal
 

@@ -1,15 +1,8 @@
 -- `same` compares each bit: before turn i, i of them.
-use mathlib.Core.Path.{◌≡◌, refl, sym, ap₂, ◌∙◌}
-use mathlib.Core.Bool.{Bool, ◌&&◌}
-use Prim.Native.Nat.{ℕ, ◌-◌, ◌≤◌}
-use native.Mathlib.Omega.{arith}
-use borrow.Author.Rules.{rules}
-use lib.Dec.{eqb}
+use mathlib.Core.Path.{◌≡◌}
+use Prim.Native.Nat.{◌-◌, ◌≤◌}
 use Rattle.rules.specs.Bits.{row}
-use Rattle.rules.specs.Modes.{packet_bits}
 use Rattle.turbo.specs.Coded.{same_bits, sent_from}
-use Rattle.turbo.proofs.Modes.{place_read, place-read-lt}
-use Rattle.laws.specs.Every.{every-next}
 use Rattle.turbo.proofs.same.Given as goal
 
 abbrev pub invariant-loop-i : goal.invariant-loop-i

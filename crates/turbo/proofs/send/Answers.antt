@@ -1,12 +1,8 @@
 -- `send` takes each bit from its place: before turn i, i of them.
 use mathlib.Core.Path.{refl, sym, ap, ◌∙◌}
-use Prim.Native.Nat.{◌-◌, ◌≤◌}
 use native.Mathlib.Omega.{arith}
-use borrow.Author.Rules.{rules}
 use Rattle.rules.specs.Bits.{row}
-use Rattle.laws.specs.Holds.{Holds}
-use Rattle.laws.specs.Filled.{up_to, holds-first, holds-next, holds-whole}
-use Rattle.rules.specs.Modes.{packet_bits}
+use Rattle.laws.specs.Filled.{holds-first, holds-next, holds-whole}
 use Rattle.turbo.specs.Coded.{sent_from}
 use Rattle.turbo.proofs.Modes.{place_read, place-read-lt}
 use Rattle.turbo.proofs.send.Goals as goal
@@ -23,8 +19,7 @@ bounds-out-i c = omega (arith, c.loop-i.invariant.1.long)
 
 pub loop-i-preserved : goal.loop-i-preserved
 loop-i-preserved c =
-    let l = c.loop-i in
-    (
+    let l = c.loop-i in (
       omega arith,
       holds-next (sent_from c.args.mode (row c.args.all)) _ 0 l.i _ (omega arith)
           (ap (row c.args.all)

@@ -1,14 +1,10 @@
 -- `send` takes each bit from its place: before turn i, i of them.
-use mathlib.Core.Path.{refl, sym, ap, ◌∙◌}
 use Prim.Native.Nat.{◌-◌, ◌≤◌}
-use native.Mathlib.Omega.{arith}
-use borrow.Author.Rules.{rules}
 use Rattle.rules.specs.Bits.{row}
 use Rattle.laws.specs.Holds.{Holds}
-use Rattle.laws.specs.Filled.{up_to, holds-first, holds-next, holds-whole}
+use Rattle.laws.specs.Filled.{up_to}
 use Rattle.rules.specs.Modes.{packet_bits}
 use Rattle.turbo.specs.Coded.{sent_from}
-use Rattle.turbo.proofs.Modes.{place_read, place-read-lt}
 use Rattle.turbo.proofs.send.Given as goal
 
 abbrev pub invariant-loop-i : goal.invariant-loop-i

@@ -1,6 +1,5 @@
 -- `streams_of` makes the four streams: the data of both encoders, then the streams of both.
 use Prim.Native.Nat.{ℕ}
-use borrow.Author.Rules.{rules}
 use Rattle.rules.specs.Bits.{row}
 use Rattle.rules.specs.Slots.{second}
 use Rattle.laws.specs.Holds.{holds_as}

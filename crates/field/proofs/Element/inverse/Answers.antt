@@ -1,5 +1,4 @@
 -- `inverse` answers `rule.inverse`, by the power that it is.
-use borrow.Author.Rules.{rules}
 use Rattle.rules.specs.Field.{inverse}
 use Rattle.field.proofs.Element.inverse.Goals as goal
 

@@ -1,9 +1,7 @@
 -- `power` answers `rule.power`: the answer, times the power of the square that is left, is the power.
 use mathlib.Core.Path.{◌≡◌, sym, ap, ◌∙◌}
-use mathlib.Core.Logic.{⊎_elim}
 use Prim.Native.Nat.{ℕ, suc, ◌*◌, ◌/◌, ◌<◌}
 use native.Mathlib.Omega.{arith}
-use borrow.Author.Rules.{rules}
 use Rattle.rules.specs.Field.{◌⊗◌, power}
 use Rattle.field.proofs.Laws.{⊗-assoc, ⊗-one-l, ⊗-one-r, ⊗-lt, power-lt, power-suc, power-mul}
 use Rattle.field.proofs.Element.power.Goals.{then-left-eq1, else-left-eq1}
@@ -34,8 +32,8 @@ loop-left-preserved c =
     let q : ℕ = c.if-left-eq1.answer.0 in
     let kept : (q < 256) × (q ⊗ power (s ⊗ s) h ≡ r ⊗ power s l.left) =
     elim c.if-left-eq1.branch [
-      then-left-eq1 w ↦ let e : q ≡ r ⊗ s = ap (λ e. e.0) w.answer-is ∙ w.product-answer.ensures in rw e (⊗-lt r s, odd r s h l.left (omega arith))
-    | else-left-eq1 w ↦ let e : q ≡ r = ap (λ e. e.0) w.answer-is in rw e (l.invariant.0, even r s h l.left (omega arith))
+      | then-left-eq1 w ↦ let e : q ≡ r ⊗ s = ap (λ e. e.0) w.answer-is ∙ w.product-answer.ensures in rw e (⊗-lt r s, odd r s h l.left (omega arith))
+      | else-left-eq1 w ↦ let e : q ≡ r = ap (λ e. e.0) w.answer-is in rw e (l.invariant.0, even r s h l.left (omega arith))
     ] in
     (kept.0, ap (λ (x : ℕ). q ⊗ power x h) c.product-square.ensures ∙ kept.1 ∙ l.invariant.1)
 

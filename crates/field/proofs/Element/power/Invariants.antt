@@ -1,11 +1,7 @@
 -- `power` answers `rule.power`: the answer, times the power of the square that is left, is the power.
-use mathlib.Core.Path.{◌≡◌, sym, ap, ◌∙◌}
-use mathlib.Core.Logic.{⊎_elim}
-use Prim.Native.Nat.{ℕ, suc, ◌*◌, ◌/◌, ◌<◌}
-use native.Mathlib.Omega.{arith}
-use borrow.Author.Rules.{rules}
+use mathlib.Core.Path.{◌≡◌}
+use Prim.Native.Nat.{◌<◌}
 use Rattle.rules.specs.Field.{◌⊗◌, power}
-use Rattle.field.proofs.Laws.{⊗-assoc, ⊗-one-l, ⊗-one-r, ⊗-lt, power-lt, power-suc, power-mul}
 use Rattle.field.proofs.Element.power.Given as goal
 
 abbrev pub invariant-loop-left : goal.invariant-loop-left

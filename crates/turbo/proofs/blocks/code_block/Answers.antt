@@ -1,9 +1,8 @@
 -- `code_block` meets its contract. The loop's invariant: the packets before p are coded.
 use mathlib.Core.Path.{◌≡◌, refl, ap₂, subst, ◌∙◌}
 use lib.ListN.{length, length-take, length-drop}
-use Prim.Native.Nat.{ℕ, ◌+◌, ◌*◌, ◌-◌, ◌≤◌}
+use Prim.Native.Nat.{ℕ, ◌+◌, ◌*◌, ◌≤◌}
 use native.Mathlib.Omega.{arith}
-use borrow.Author.Rules.{rules}
 use Rattle.laws.specs.Holds.{Holds}
 use Rattle.laws.specs.Parts.{part-within, part-long}
 use Rattle.turbo.specs.Blocks.{coded_row}

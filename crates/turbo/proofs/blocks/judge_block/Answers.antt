@@ -1,6 +1,6 @@
 -- The loop's invariant: the first p packets are judged.
 use mathlib.Core.Path.{◌≡◌, refl, sym, ◌∙◌, ap}
-use Prim.Native.Nat.{ℕ, ◌+◌, ◌-◌, ◌*◌, ◌≤◌, ◌<◌}
+use Prim.Native.Nat.{ℕ, ◌+◌, ◌*◌, ◌≤◌, ◌<◌}
 use native.Mathlib.Omega.{arith}
 use lib.ListN.{length}
 use borrow.Author.Rules.{rules}
@@ -8,7 +8,6 @@ use Rattle.rules.specs.Bits.{row}
 use Rattle.rules.specs.Modes.{packet_bits}
 use Rattle.rules.specs.Block.{packet_part}
 use Rattle.laws.specs.Parts.{part, part-within, part-long, part_at}
-use Rattle.turbo.specs.Blocks.{WeighedTo}
 use Rattle.turbo.proofs.Weighing.{weighed-none, weighed-lt, weighed-next}
 use Rattle.turbo.proofs.blocks.judge_block.Goals.{After-own_places-own, After-packet_bits-n, At-loop-p, In-loop-p, Start}
 use Rattle.turbo.proofs.blocks.judge_block.Goals as goal
