@@ -10,17 +10,30 @@
 //     compare: cells differ            no trouble: what was compared isn't the same. `bin/` keeps this line for itself
 //
 // A program that did what was asked says nothing else there.
+#![tactic(auto)]
+
 pub mod field;
 pub mod put;
 pub mod twin;
 
-use libc::{PATH_MAX, STDERR_FILENO, STDIN_FILENO, STDOUT_FILENO};
+ghost use Rattle.std.specs.Prelude.{◌≤◌, length, IfOk};
+
+use std::env::{Env, FillError};
+use std::io::{Error, Print, Read};
+
+// Room for a path: the longest that the system takes has a byte less, for the zero that ends it there.
+pub const PATH_MAX: usize = 4096;
 
 // Room for a line.
 const ROOM: usize = 256;
 
 // Room for a line with a path.
 const PATH_ROOM: usize = PATH_MAX + 128;
+
+// The system's numbers for a word that is not there, and for one that is too long.
+const EINVAL: i32 = 22;
+
+const ENAMETOOLONG: i32 = 36;
 
 // What the words after a program's name are.
 #[derive(Drop)]
@@ -57,34 +70,73 @@ pub fn same(a: &[u8], b: &[u8]) -> bool {
     true
 }
 
+// Puts argument i at the start of a buffer, and answers its length; 0 where there is none, or where it is longer than the buffer, which then has
+// its first bytes.
+fn argument(rt: HostRuntime, i: usize, room: &mut [u8]) -> usize
+    ensures { result ≤ length room.new }
+{
+    match rt.arg(i, room) {
+        Ok(n) => n,
+        Err(_) => 0,
+    }
+}
+
+// Puts argument i at the start of a buffer, and answers its length, or why it can't.
+pub fn word(rt: HostRuntime, i: usize, room: &mut [u8]) -> Result<usize, Error>
+    ensures { IfOk result (λ n. n ≤ length room.new) }
+{
+    match rt.arg(i, room) {
+        Ok(n) => Ok(n),
+        Err(FillError::TooLong) => Err(Error::from_raw_os_error(ENAMETOOLONG)),
+        Err(FillError::NotPresent) => Err(Error::from_raw_os_error(EINVAL)),
+    }
+}
+
+// Whether there is an argument i.
+fn is_given(rt: HostRuntime, i: usize) -> bool {
+    let mut first = [0u8; 1];
+    !matches!(rt.arg(i, &mut first), Err(FillError::NotPresent))
+}
+
+// How many arguments there are, the program's name among them: beyond 4 they are not counted.
+pub fn arg_count(rt: HostRuntime) -> usize {
+    let mut n = 0;
+    while n < 4 {
+        if !is_given(rt, n) {
+            return n;
+        }
+        n += 1;
+    }
+    n
+}
+
 // Whether the first word is --help.
-fn is_help() -> bool {
+fn is_help(rt: HostRuntime) -> bool {
     let mut word = [0u8; 8];
-    let n = os::arg(1, &mut word);
+    let n = argument(rt, 1, &mut word);
     same(&word[..n], b"--help")
 }
 
 // Whether argument i can be a word of a program's: it is not empty, and only --help begins with a dash.
-fn is_word(i: usize) -> bool {
+fn is_word(rt: HostRuntime, i: usize) -> bool {
     let mut first = [0u8; 1];
-    let n = os::arg(i, &mut first);
-    let is_empty = n == 0 && os::errno() == 0;
+    let is_empty = matches!(rt.arg(i, &mut first), Ok(0));
     !is_empty && first[0] != b'-'
 }
 
-fn asked_by_word() -> Request {
-    if is_help() {
+fn asked_by_word(rt: HostRuntime) -> Request {
+    if is_help(rt) {
         return Request::Help;
     }
-    if is_word(1) {
+    if is_word(rt, 1) {
         Request::Word
     } else {
         Request::Wrong
     }
 }
 
-fn asked_by_two() -> Request {
-    if is_word(1) && is_word(2) {
+fn asked_by_two(rt: HostRuntime) -> Request {
+    if is_word(rt, 1) && is_word(rt, 2) {
         Request::TwoWords
     } else {
         Request::Wrong
@@ -92,33 +144,42 @@ fn asked_by_two() -> Request {
 }
 
 // What the words after a program's name are.
-pub fn asked() -> Request {
-    match os::arg_count() {
+pub fn asked(rt: HostRuntime) -> Request {
+    match arg_count(rt) {
         0 | 1 => Request::Nothing,
-        2 => asked_by_word(),
-        3 => asked_by_two(),
+        2 => asked_by_word(rt),
+        3 => asked_by_two(rt),
         _ => Request::Wrong,
     }
 }
 
+// Writes to standard error; where that can't be, there is nobody to tell.
+fn tell(rt: HostRuntime, bytes: &[u8]) {
+    let _ = rt.stderr().write_all(bytes);
+}
+
 // The line for a use that a program does not take.
-pub fn usage(words: &[u8]) {
-    io::write_all(STDERR_FILENO, b"usage: ");
-    io::write_all(STDERR_FILENO, words);
-    io::write_all(STDERR_FILENO, b"\n");
+pub fn usage(rt: HostRuntime, words: &[u8]) {
+    tell(rt, b"usage: ");
+    tell(rt, words);
+    tell(rt, b"\n");
 }
 
 // That what a program compared isn't the same: its result, for the exit status.
-pub fn differ(program: &[u8]) {
-    io::write_all(STDERR_FILENO, program);
-    io::write_all(STDERR_FILENO, b": cells differ\n");
+pub fn differ(rt: HostRuntime, program: &[u8]) {
+    tell(rt, program);
+    tell(rt, b": cells differ\n");
 }
 
-// Trouble, by errno: what the program can't do.
-pub fn cannot(program: &[u8], what: &[u8]) {
-    io::write_all(STDERR_FILENO, program);
-    io::write_all(STDERR_FILENO, b": cannot ");
-    os::fail(what);
+// Trouble, by the system's error: what the program can't do.
+pub fn cannot(rt: HostRuntime, program: &[u8], what: &[u8], e: &Error) {
+    tell(rt, program);
+    tell(rt, b": cannot ");
+    tell(rt, what);
+    let mut out = [0u8; ROOM];
+    let at = put::bytes(&mut out, 0, b": ");
+    let at = put::words(&mut out, at, e);
+    put::say(rt, &mut out, at);
 }
 
 // What is to be done with a path, which came from outside.
@@ -128,51 +189,70 @@ fn deed(out: &mut [u8], at: usize, verb: &[u8], path: &[u8]) -> usize {
     put::foreign(out, at, path)
 }
 
-// Trouble with a file, by errno: what the program can't do with it.
-pub fn cannot_file(program: &[u8], verb: &[u8], path: &[u8]) {
+// Trouble with a file, by the system's error: what the program can't do with it.
+pub fn cannot_file(rt: HostRuntime, program: &[u8], verb: &[u8], path: &[u8], e: &Error) {
     let mut what = [0u8; PATH_ROOM];
     let n = deed(&mut what, 0, verb, path);
     if n <= what.len() {
-        cannot(program, &what[0..n]);
+        cannot(rt, program, &what[0..n], e);
     }
 }
 
 // Trouble with a file, by words: what the program can't do with it, and why.
-pub fn cannot_file_since(program: &[u8], verb: &[u8], path: &[u8], why: &[u8]) {
+pub fn cannot_file_since(rt: HostRuntime, program: &[u8], verb: &[u8], path: &[u8], why: &[u8]) {
     let mut line = [0u8; PATH_ROOM];
     let at = put::bytes(&mut line, 0, program);
     let at = put::bytes(&mut line, at, b": cannot ");
     let at = deed(&mut line, at, verb, path);
     let at = put::bytes(&mut line, at, b": ");
     let at = put::bytes(&mut line, at, why);
-    put::say(&mut line, at);
+    put::say(rt, &mut line, at);
 }
 
 // Writes to standard output; answers whether it could, and says so where it can't.
-pub fn write(program: &[u8], bytes: &[u8]) -> bool {
-    let is_written = io::write_all(STDOUT_FILENO, bytes);
-    if !is_written {
-        cannot(program, b"write standard output");
+pub fn write(rt: HostRuntime, program: &[u8], bytes: &[u8]) -> bool {
+    match rt.stdout().write_all(bytes) {
+        Ok(()) => true,
+        Err(e) => {
+            cannot(rt, program, b"write standard output", &e);
+            false
+        }
     }
-    is_written
 }
 
 // Writes the first n bytes of a buffer to standard output.
-pub fn write_part(program: &[u8], out: &[u8], n: usize) -> bool {
+pub fn write_part(rt: HostRuntime, program: &[u8], out: &[u8], n: usize) -> bool {
     if out.len() < n {
         return false;
     }
-    write(program, &out[0..n])
+    write(rt, program, &out[0..n])
+}
+
+// Reads until the buffer is full, the input ends or can't be read, and answers how many bytes it put at the start of the buffer.
+pub fn read_full(from: &mut impl Read, room: &mut [u8]) -> usize
+    ensures { result ≤ length room.new }
+{
+    let mut done = 0;
+    while done < room.len() {
+        match from.read(&mut room[done..]) {
+            Ok(0) => return done,
+            Ok(n) => done += n,
+            Err(_) => return done,
+        }
+    }
+    done
 }
 
 // Whether standard input, of which fewer bytes came than were asked for, can't be read: at its end a read answers 0. Says so.
-pub fn is_unread(program: &[u8]) -> bool {
+pub fn is_unread(rt: HostRuntime, program: &[u8]) -> bool {
     let mut one = [0u8; 1];
-    let fails = libc::read(STDIN_FILENO, &mut one) < 0;
-    if fails {
-        cannot(program, b"read standard input");
+    match rt.stdin().read(&mut one) {
+        Ok(_) => false,
+        Err(e) => {
+            cannot(rt, program, b"read standard input", &e);
+            true
+        }
     }
-    fails
 }
 
 // What the documents say of a number.
@@ -235,10 +315,10 @@ fn meant(out: &mut [u8], number: u32) -> usize {
 }
 
 // A refusal.
-pub fn refuse(number: u32) {
+pub fn refuse(rt: HostRuntime, number: u32) {
     let mut out = [0u8; ROOM];
     let at = meant(&mut out, number);
-    put::say(&mut out, at);
+    put::say(rt, &mut out, at);
 }
 
 // The start of a refusal's line that names a place.
@@ -249,10 +329,10 @@ fn placed(out: &mut [u8], number: u32, what: &[u8], place: u64) -> usize {
 }
 
 // A refusal of what the bytes begin with, at a place of a profile with this level.
-fn refuse_at(number: u32, place: usize, bytes: &[u8], level: u32) {
+fn refuse_at(rt: HostRuntime, number: u32, place: usize, bytes: &[u8], level: u32) {
     let n = field::size(number);
     if n == 0 || bytes.len() < n {
-        return refuse(number);
+        return refuse(rt, number);
     }
     let x = field::spelt(&bytes[0..n]);
     let mut out = [0u8; ROOM];
@@ -260,82 +340,98 @@ fn refuse_at(number: u32, place: usize, bytes: &[u8], level: u32) {
     let at = field::before(&mut out, at, number, field::index(number, place));
     let at = field::value(&mut out, at, number, x);
     let at = field::after_value(&mut out, at, number, x, level);
-    put::say(&mut out, at);
+    put::say(rt, &mut out, at);
 }
 
 // A refusal of a profile's bytes for twins: the place is the later slot.
-fn refuse_twins(number: u32, slot: usize, bytes: &[u8]) {
+fn refuse_twins(rt: HostRuntime, number: u32, slot: usize, bytes: &[u8]) {
     let masks = twin::masks_of(bytes);
     let seeds = twin::seeds_of(bytes);
     let mut out = [0u8; ROOM];
     let at = placed(&mut out, number, b" at slot ", slot as u64);
     let at = twin::words(&mut out, at, masks, seeds, slot);
-    put::say(&mut out, at);
+    put::say(rt, &mut out, at);
 }
 
 // A refusal of a profile's bytes: where it names a field, by what stands at the place; where it names a slot, the place is no byte.
-pub fn refuse_profile(number: u32, place: usize, bytes: &[u8]) {
+pub fn refuse_profile(rt: HostRuntime, number: u32, place: usize, bytes: &[u8]) {
     if number == 46 {
-        refuse_twins(number, place, bytes);
+        refuse_twins(rt, number, place, bytes);
     } else if place <= bytes.len() {
-        refuse_at(number, place, &bytes[place..], field::level(bytes));
+        refuse_at(rt, number, place, &bytes[place..], field::level(bytes));
     } else {
-        refuse(number);
+        refuse(rt, number);
     }
 }
 
 // A refusal of a report, by the line where it begins.
-pub fn refuse_report(number: u32, line: u64) {
+pub fn refuse_report(rt: HostRuntime, number: u32, line: u64) {
     let mut out = [0u8; ROOM];
     let at = placed(&mut out, number, b" at line ", line);
     let at = meaning(&mut out, at, number);
-    put::say(&mut out, at);
+    put::say(rt, &mut out, at);
 }
 
 // A refusal for input that ends before the profile, or what stands beside it, does.
-pub fn refuse_short_input(number: u32, what: &[u8]) {
+pub fn refuse_short_input(rt: HostRuntime, number: u32, what: &[u8]) {
     let mut out = [0u8; ROOM];
     let at = numbered(&mut out, number);
     let at = put::bytes(&mut out, at, b"the input ends before ");
     let at = put::bytes(&mut out, at, what);
-    put::say(&mut out, at);
+    put::say(rt, &mut out, at);
 }
 
 // A refusal with two counts behind its meaning, and the words before each and after them.
-fn refuse_counted(number: u32, first: &[u8], a: u64, second: &[u8], b: u64, last: &[u8]) {
+fn refuse_counted(
+    rt: HostRuntime,
+    number: u32,
+    first: &[u8],
+    a: u64,
+    second: &[u8],
+    b: u64,
+    last: &[u8],
+) {
     let mut out = [0u8; ROOM];
     let at = meant(&mut out, number);
     let at = counted(&mut out, at, first, a);
     let at = counted(&mut out, at, second, b);
     let at = put::bytes(&mut out, at, last);
-    put::say(&mut out, at);
+    put::say(rt, &mut out, at);
 }
 
 // A refusal for input of a wrong length.
-pub fn refuse_length(number: u32, came: u64, due: u64) {
-    refuse_counted(number, b": ", came, b" came, ", due, b" are due");
+pub fn refuse_length(rt: HostRuntime, number: u32, came: u64, due: u64) {
+    refuse_counted(rt, number, b": ", came, b" came, ", due, b" are due");
 }
 
 // A refusal for input that is so long that it was not read to its end.
-pub fn refuse_surplus(number: u32, read: u64, due: u64) {
-    refuse_counted(number, b": more than ", read, b" came, ", due, b" are due");
+pub fn refuse_surplus(rt: HostRuntime, number: u32, read: u64, due: u64) {
+    refuse_counted(
+        rt,
+        number,
+        b": more than ",
+        read,
+        b" came, ",
+        due,
+        b" are due",
+    );
 }
 
 // A refusal for too many lost packets.
-pub fn refuse_lost(number: u32, lost: u64, r: u64) {
-    refuse_counted(number, b": ", lost, b" are lost, r is ", r, b"");
+pub fn refuse_lost(rt: HostRuntime, number: u32, lost: u64, r: u64) {
+    refuse_counted(rt, number, b": ", lost, b" are lost, r is ", r, b"");
 }
 
 // A refusal for two files of cells that aren't of one length.
-pub fn refuse_unequal(number: u32, a: u64, b: u64) {
-    refuse_counted(number, b": A has ", a, b" bytes, B has ", b, b"");
+pub fn refuse_unequal(rt: HostRuntime, number: u32, a: u64, b: u64) {
+    refuse_counted(rt, number, b": A has ", a, b" bytes, B has ", b, b"");
 }
 
 // A refusal for two files of cells of one length, which is wrong.
-pub fn refuse_both(number: u32, bytes: u64) {
+pub fn refuse_both(rt: HostRuntime, number: u32, bytes: u64) {
     let mut out = [0u8; ROOM];
     let at = meant(&mut out, number);
     let at = counted(&mut out, at, b": each file has ", bytes);
     let at = put::bytes(&mut out, at, b" bytes");
-    put::say(&mut out, at);
+    put::say(rt, &mut out, at);
 }

@@ -1,6 +1,8 @@
 // Text into a buffer: each function answers the place after what it put there. What does not fit is left out, and the place then stays at
 // the buffer's end.
-use libc::STDERR_FILENO;
+use std::fmt;
+use std::fmt::Write;
+use std::io::{Error, Print};
 
 // A byte that every screen shows as it is, and `?` for any other.
 fn plain(b: u8) -> u8 {
@@ -33,18 +35,33 @@ pub fn foreign(out: &mut [u8], at: usize, s: &[u8]) -> usize {
     copy(out, at, s, true)
 }
 
+// A buffer and a place in it, for what std writes as text.
+#[derive(Drop)]
+struct Text<'a> {
+    out: &'a mut [u8],
+    at: usize,
+}
+
+impl fmt::Write for Text<'_> {
+    fn write_str(&mut self, s: &str) -> fmt::Result {
+        let at = self.at;
+        self.at = bytes(self.out, at, s.as_bytes());
+        Ok(())
+    }
+}
+
 // A number in decimal.
 pub fn decimal(out: &mut [u8], at: usize, x: u64) -> usize {
-    let mut text = [0u8; 20];
-    let k = io::decimal(x, &mut text);
-    bytes(out, at, &text[..k])
+    let mut text = Text { out, at };
+    let _ = write!(text, "{x}");
+    text.at
 }
 
 // A pattern's eight digits in hexadecimal.
 pub fn digits(out: &mut [u8], at: usize, x: u32) -> usize {
-    let mut text = [0u8; 16];
-    let k = io::hex(x as u64, 8, &mut text);
-    bytes(out, at, &text[..k])
+    let mut text = Text { out, at };
+    let _ = write!(text, "{x:08x}");
+    text.at
 }
 
 // A pattern in hexadecimal, with the mark of such a number before it.
@@ -53,16 +70,52 @@ pub fn pattern(out: &mut [u8], at: usize, x: u32) -> usize {
     digits(out, at, x)
 }
 
+// Room for what std says of an error.
+const ROOM: usize = 256;
+
+// What std says of an error.
+fn said(out: &mut [u8], e: &Error) -> usize {
+    let mut text = Text { out, at: 0 };
+    let _ = write!(text, "{e}");
+    text.at
+}
+
+// How many bytes std adds to the words of an error of the system, to name its number.
+fn added(code: i32) -> usize {
+    let mut room = [0u8; ROOM];
+    let mut text = Text {
+        out: &mut room,
+        at: 0,
+    };
+    let _ = write!(text, " (os error {code})");
+    text.at
+}
+
+// The system's words for an error, without its number; of an error that the system has no words for, what std says.
+pub fn words(out: &mut [u8], at: usize, e: &Error) -> usize {
+    let mut room = [0u8; ROOM];
+    let n = said(&mut room, e);
+    let k = match e.raw_os_error() {
+        Some(code) => added(code),
+        None => 0,
+    };
+    if k <= n && n <= ROOM {
+        bytes(out, at, &room[0..n - k])
+    } else {
+        at
+    }
+}
+
 // Writes the first n bytes of a buffer, and answers whether it could.
-pub fn write(fd: i32, out: &[u8], n: usize) -> bool {
+pub fn write(to: &impl Print, out: &[u8], n: usize) -> bool {
     if out.len() < n {
         return false;
     }
-    io::write_all(fd, &out[0..n])
+    to.write_all(&out[0..n]).is_ok()
 }
 
 // Ends the line that the buffer has, and writes it to standard error.
-pub fn say(out: &mut [u8], at: usize) {
+pub fn say(rt: HostRuntime, out: &mut [u8], at: usize) {
     let n = bytes(out, at, b"\n");
-    write(STDERR_FILENO, out, n);
+    write(&rt.stderr(), out, n);
 }
