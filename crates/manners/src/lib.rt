@@ -19,7 +19,7 @@ pub mod twin;
 ghost use Rattle.std.specs.Prelude.{◌≤◌, length, IfOk};
 
 use std::env::{Env, FillError};
-use std::io::{Error, Print, Read};
+use std::io::{Error, ErrorKind, Print, Read};
 
 // Room for a path: the longest that the system takes has a byte less, for the zero that ends it there.
 pub const PATH_MAX: usize = 4096;
@@ -180,6 +180,14 @@ pub fn cannot(rt: HostRuntime, program: &[u8], what: &[u8], e: &Error) {
     let at = put::bytes(&mut out, 0, b": ");
     let at = put::words(&mut out, at, e);
     put::say(rt, &mut out, at);
+}
+
+// A path as std takes it, which opens no name that is not UTF-8.
+pub fn named(path: &[u8]) -> Result<&str, Error> {
+    match str::from_utf8(path) {
+        Ok(text) => Ok(text),
+        Err(_) => Err(Error::new(ErrorKind::InvalidInput, "the name is not UTF-8")),
+    }
 }
 
 // What is to be done with a path, which came from outside.

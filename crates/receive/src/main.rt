@@ -2,12 +2,13 @@
 // parts and 4096 second parts, four bytes each, all high byte first. Standard output: number and lost mask, then each packet and its reason;
 // what a number other than 0 means goes to standard error. Where the number is 0 and there is an argument, the data goes to the file that it
 // names. Of the cells it holds one symbol's at a time.
+#![tactic(auto)]
+
 mod file;
 
 ghost use Rattle.std.specs.Prelude.{◌*◌, ◌≤◌, length};
 
-use libc::STDIN_FILENO;
-use manners::{Request, put};
+use manners::{PATH_MAX, Request, put};
 use profile::only;
 use rules::{Answer, Profile, Receipt};
 
@@ -37,9 +38,9 @@ struct Fed {
     came: usize,
 }
 
-fn read_pair() -> Two {
+fn read_pair(rt: HostRuntime) -> Two {
     let mut two = [0u8; 2];
-    if io::read_full(STDIN_FILENO, &mut two) != 2 {
+    if manners::read_full(&mut rt.stdin(), &mut two) != 2 {
         return Two::Cut;
     }
     Two::Whole(manners::pair(two[0], two[1]))
@@ -56,12 +57,12 @@ fn gather(bytes: &[u8], list: &mut [f32])
 }
 
 // Reads one symbol's first or second parts, and answers how many bytes came.
-fn read_parts(list: &mut [f32]) -> usize
+fn read_parts(rt: HostRuntime, list: &mut [f32]) -> usize
     requires { length list.old ≤ 4096 }
     ensures { result ≤ 16384 }
 {
     let mut bytes = [0u8; PARTS];
-    let n = io::read_full(STDIN_FILENO, &mut bytes);
+    let n = manners::read_full(&mut rt.stdin(), &mut bytes);
     if n == PARTS {
         gather(&bytes, list);
     }
@@ -69,8 +70,8 @@ fn read_parts(list: &mut [f32]) -> usize
 }
 
 // The answer for cells that did not all come: the input ended, or can't be read.
-fn cut() -> Answer {
-    if manners::is_unread(b"receive") {
+fn cut(rt: HostRuntime) -> Answer {
+    if manners::is_unread(rt, b"receive") {
         only(UNREAD)
     } else {
         only(7)
@@ -78,23 +79,23 @@ fn cut() -> Answer {
 }
 
 // Reads one symbol, and feeds its cells as one piece.
-fn feed_one(p: Profile, state: &mut [u8]) -> Fed
+fn feed_one(rt: HostRuntime, p: Profile, state: &mut [u8]) -> Fed
     ensures { result.came ≤ 32768 }
 {
     let mut firsts = [0f32; 4096];
     let mut seconds = [0f32; 4096];
-    let first = read_parts(&mut firsts);
+    let first = read_parts(rt, &mut firsts);
     if first != PARTS {
         return Fed {
-            answer: cut(),
+            answer: cut(rt),
             came: first,
         };
     }
-    let second = read_parts(&mut seconds);
+    let second = read_parts(rt, &mut seconds);
     let came = PARTS + second;
     if second != PARTS {
         return Fed {
-            answer: cut(),
+            answer: cut(rt),
             came,
         };
     }
@@ -105,11 +106,11 @@ fn feed_one(p: Profile, state: &mut [u8]) -> Fed
 }
 
 // The symbols in their order, up to a refusal, all into one state.
-fn feed_all(p: Profile, state: &mut [u8]) -> Fed {
+fn feed_all(rt: HostRuntime, p: Profile, state: &mut [u8]) -> Fed {
     let n = modes::symbol_count(p.mode);
     let mut came: usize = 0;
     for y in 0..n {
-        let fed = feed_one(p, state);
+        let fed = feed_one(rt, p, state);
         came = 2 * PARTS * y + fed.came;
         let a = fed.answer;
         if a.number != 0 {
@@ -123,12 +124,12 @@ fn feed_all(p: Profile, state: &mut [u8]) -> Fed {
 }
 
 // What comes after the cells: 0 where the input ended.
-fn after_cells() -> Answer {
+fn after_cells(rt: HostRuntime) -> Answer {
     let mut one = [0u8; 1];
-    if io::read_full(STDIN_FILENO, &mut one) != 0 {
+    if manners::read_full(&mut rt.stdin(), &mut one) != 0 {
         return only(7);
     }
-    if manners::is_unread(b"receive") {
+    if manners::is_unread(rt, b"receive") {
         only(UNREAD)
     } else {
         only(0)
@@ -136,46 +137,45 @@ fn after_cells() -> Answer {
 }
 
 // What feeding answered or, where it took all cells, what comes after them.
-fn ended(a: Answer) -> Answer {
-    if a.number == 0 { after_cells() } else { a }
+fn ended(rt: HostRuntime, a: Answer) -> Answer {
+    if a.number == 0 { after_cells(rt) } else { a }
 }
 
 // Writes the data to the file that the argument names, where there is one.
-fn keep(data: &[u8]) {
-    if os::arg_count() < 2 {
+fn keep(rt: HostRuntime, data: &[u8]) {
+    if manners::arg_count(rt) < 2 {
         return;
     }
-    let mut path = io::buffer();
-    let n = os::arg(1, &mut path);
-    if os::errno() != 0 {
-        return manners::cannot(b"receive", b"write FILE");
+    let mut path = [0u8; PATH_MAX];
+    match manners::word(rt, 1, &mut path) {
+        Ok(n) => file::keep(rt, &path[..n], data),
+        Err(e) => manners::cannot(rt, b"receive", b"write FILE", &e),
     }
-    file::keep(&path[..n], data);
 }
 
 // A refusal of the profile.
-fn refused(a: Answer, bytes: &[u8]) -> Receipt {
-    manners::refuse_profile(a.number, a.place, bytes);
+fn refused(rt: HostRuntime, a: Answer, bytes: &[u8]) -> Receipt {
+    manners::refuse_profile(rt, a.number, a.place, bytes);
     receiving::silence(a)
 }
 
 // Input that ends before the mark mask does is refused, unless it did not end.
-fn stopped() -> Receipt {
-    if manners::is_unread(b"receive") {
+fn stopped(rt: HostRuntime) -> Receipt {
+    if manners::is_unread(rt, b"receive") {
         return receiving::silence(only(UNREAD));
     }
-    manners::refuse_short_input(1, b"the mark mask does");
+    manners::refuse_short_input(rt, 1, b"the mark mask does");
     receiving::silence(only(1))
 }
 
 // Says why the cells gave no data, where it was not said yet.
-fn say_cells(number: u32, came: usize, due: usize) {
+fn say_cells(rt: HostRuntime, number: u32, came: usize, due: usize) {
     if number == 7 && came < due {
-        manners::refuse_length(number, came as u64, due as u64);
+        manners::refuse_length(rt, number, came as u64, due as u64);
     } else if number == 7 {
-        manners::refuse_surplus(number, due as u64, due as u64);
+        manners::refuse_surplus(rt, number, due as u64, due as u64);
     } else if number != UNREAD {
-        manners::refuse(number);
+        manners::refuse(rt, number);
     }
 }
 
@@ -184,47 +184,47 @@ fn wide(x: u32) -> u64 {
 }
 
 // Says why the packets gave no data.
-fn say_lost(receipt: Receipt, k: u8) {
+fn say_lost(rt: HostRuntime, receipt: Receipt, k: u8) {
     if receipt.number == 9 && k <= 16 {
-        manners::refuse_lost(9, wide(u16::count_ones(receipt.lost)), (16 - k) as u64);
+        manners::refuse_lost(rt, 9, wide(u16::count_ones(receipt.lost)), (16 - k) as u64);
     } else {
-        manners::refuse(receipt.number);
+        manners::refuse(rt, receipt.number);
     }
 }
 
 // Asks for what was fed, and keeps the data.
-fn ask(p: Profile, marks: u16, state: &[u8], data: &mut [u8]) -> Receipt {
+fn ask(rt: HostRuntime, p: Profile, marks: u16, state: &[u8], data: &mut [u8]) -> Receipt {
     let receipt = receiving::ask(p, marks, state, data);
     if receipt.number == 0 {
-        keep(data);
+        keep(rt, data);
     } else {
-        say_lost(receipt, p.k);
+        say_lost(rt, receipt, p.k);
     }
     receipt
 }
 
 // Feeds all cells, and asks for the data once the input has ended with them.
-fn receive_cells(p: Profile, marks: u16) -> Receipt {
+fn receive_cells(rt: HostRuntime, p: Profile, marks: u16) -> Receipt {
     let due = 2 * PARTS * modes::symbol_count(p.mode);
     let mut state = [0u8; STATE];
-    let fed = feed_all(p, &mut state);
-    let a = ended(fed.answer);
+    let fed = feed_all(rt, p, &mut state);
+    let a = ended(rt, fed.answer);
     if a.number != 0 {
-        say_cells(a.number, fed.came, due);
+        say_cells(rt, a.number, fed.came, due);
         return receiving::silence(a);
     }
     let mut data = [0u8; 1708];
-    let n = io::count((122 * p.k as u16) as isize, &data);
-    ask(p, marks, &state, &mut data[..n])
+    let n = (122 * p.k as usize).min(data.len());
+    ask(rt, p, marks, &state, &mut data[..n])
 }
 
 // Reads the profile to its place and the mark mask, then judges the profile, then the cells.
-fn receive_by(bytes: &mut [u8]) -> Receipt {
-    if io::read_full(STDIN_FILENO, bytes) != bytes.len() {
-        return stopped();
+fn receive_by(rt: HostRuntime, bytes: &mut [u8]) -> Receipt {
+    if manners::read_full(&mut rt.stdin(), bytes) != bytes.len() {
+        return stopped(rt);
     }
-    let Two::Whole(marks) = read_pair() else {
-        return stopped();
+    let Two::Whole(marks) = read_pair(rt) else {
+        return stopped(rt);
     };
     let reading = profile::read(bytes);
     if reading.number != 0 {
@@ -232,19 +232,18 @@ fn receive_by(bytes: &mut [u8]) -> Receipt {
             number: reading.number,
             place: reading.place,
         };
-        return refused(a, bytes);
+        return refused(rt, a, bytes);
     }
     let p = reading.profile;
-    receive_cells(p, marks)
+    receive_cells(rt, p, marks)
 }
 
-fn receive() -> Receipt {
-    let Two::Whole(length) = read_pair() else {
-        return stopped();
+fn receive(rt: HostRuntime) -> Receipt {
+    let Two::Whole(length) = read_pair(rt) else {
+        return stopped(rt);
     };
     let mut bytes = [0u8; 65536];
-    let n = io::count(length as isize, &bytes);
-    receive_by(&mut bytes[..n])
+    receive_by(rt, &mut bytes[..length as usize])
 }
 
 // Two numbers, as a line of the report.
@@ -264,24 +263,25 @@ fn reason_lines(out: &mut [u8], at: usize, reasons: [u8; 16]) -> usize {
     at
 }
 
-fn report(receipt: Receipt) {
+fn report(rt: HostRuntime, receipt: Receipt) {
     let mut out = [0u8; ROOM];
     let at = line(&mut out, 0, receipt.number as u64, receipt.lost as u64);
     let reasons = receipt.reasons;
     let n = reason_lines(&mut out, at, reasons);
-    manners::write_part(b"receive", &out, n);
+    manners::write_part(rt, b"receive", &out, n);
 }
 
 // Receives, and reports, unless the input can't be read.
-fn run() {
-    let receipt = receive();
+fn run(rt: HostRuntime) {
+    let receipt = receive(rt);
     if receipt.number != UNREAD {
-        report(receipt);
+        report(rt, receipt);
     }
 }
 
-fn help() {
+fn help(rt: HostRuntime) {
     manners::write(
+        rt,
         b"receive",
         b"receive [FILE] < input > report
 
@@ -302,11 +302,14 @@ bin/receive ends with 0 when the number is 0, 1 at any other number, 2 for a wro
     );
 }
 
-fn main() {
-    match manners::asked() {
-        Request::Nothing => run(),
-        Request::Word => run(),
-        Request::Help => help(),
-        _ => manners::usage(b"receive [FILE] < input > report; receive --help says more"),
+fn main(rt: HostRuntime) {
+    match manners::asked(rt) {
+        Request::Nothing => run(rt),
+        Request::Word => run(rt),
+        Request::Help => help(rt),
+        _ => manners::usage(
+            rt,
+            b"receive [FILE] < input > report; receive --help says more",
+        ),
     }
 }
