@@ -1,6 +1,10 @@
 // One of the two files of cells: opened, read to its end for its length, then read again symbol by symbol. What can't be done is said here.
 ghost use Rattle.std.specs.Prelude.{◌*◌, ◌<◌, ◌≤◌, length};
 
+use std::fs::File;
+use std::io;
+use std::io::{Error, Read, Seek, SeekFrom};
+
 // Bytes of one symbol's first parts, or second parts.
 const PARTS: usize = 16_384;
 
@@ -14,70 +18,90 @@ pub struct Length {
     pub bytes: u64,
 }
 
-// Says that a file can't be read, by errno.
-fn cannot_read(path: &[u8]) {
-    manners::cannot_file(b"compare", b"read", path);
+// Says that a file can't be read, by the system's error.
+fn cannot_read(rt: HostRuntime, path: &[u8], e: &Error) {
+    manners::cannot_file(rt, b"compare", b"read", path, e);
 }
 
 // Says that a file can't be read, and why.
-fn cannot_read_since(path: &[u8], why: &[u8]) {
-    manners::cannot_file_since(b"compare", b"read", path, why);
+fn cannot_read_since(rt: HostRuntime, path: &[u8], why: &[u8]) {
+    manners::cannot_file_since(rt, b"compare", b"read", path, why);
 }
 
 // Says that a file isn't what it was when its length was taken.
-fn changed(path: &[u8]) {
-    cannot_read_since(path, b"it changed meanwhile");
+fn changed(rt: HostRuntime, path: &[u8]) {
+    cannot_read_since(rt, path, b"it changed meanwhile");
 }
 
 // Says that a file is too long.
-fn too_long(path: &[u8]) {
-    cannot_read_since(path, b"it is too long");
+fn too_long(rt: HostRuntime, path: &[u8]) {
+    cannot_read_since(rt, path, b"it is too long");
 }
 
 // Goes to a file's start, and answers whether it has one: a pipe has not. Says so.
-pub fn rewind(file: i32, path: &[u8]) -> bool {
-    let is_at_start = libc::lseek(file, 0, libc::SEEK_SET) == 0;
+pub fn rewind(rt: HostRuntime, file: &mut File, path: &[u8]) -> bool {
+    let is_at_start = file.seek(SeekFrom::Start(0)).is_ok();
     if !is_at_start {
-        cannot_read_since(path, b"it can't be read twice, put it into a file first");
+        cannot_read_since(
+            rt,
+            path,
+            b"it can't be read twice, put it into a file first",
+        );
     }
     is_at_start
 }
 
-// Opens a file that can be read twice, and answers its descriptor, or one below 0 where it said why it can't.
-pub fn open(path: &[u8]) -> i32 {
-    let file = os::open_read(path);
-    if file < 0 {
-        cannot_read(path);
-        return -1;
+// Opens a file to read it.
+fn open_read(rt: HostRuntime, path: &[u8]) -> io::Result<File> {
+    let text = manners::named(path)?;
+    File::open(&rt, text)
+}
+
+// Goes to the start of a file that was opened, and answers it, or none where it said why it can't.
+fn rewound(rt: HostRuntime, mut file: File, path: &[u8]) -> Option<File> {
+    if rewind(rt, &mut file, path) {
+        Some(file)
+    } else {
+        None
     }
-    if rewind(file, path) { file } else { -1 }
+}
+
+// Opens a file that can be read twice, and answers it, or none where it said why it can't.
+pub fn open(rt: HostRuntime, path: &[u8]) -> Option<File> {
+    match open_read(rt, path) {
+        Ok(file) => rewound(rt, file, path),
+        Err(e) => {
+            cannot_read(rt, path, &e);
+            None
+        }
+    }
 }
 
 // Reads a file to its end, and answers how many bytes it has, or says why it can't.
-pub fn length_of(file: i32, path: &[u8]) -> Length
+pub fn length_of(rt: HostRuntime, file: &mut File, path: &[u8]) -> Length
     ensures { result.bytes < 140737488355328 }
 {
-    let mut room = io::large_buffer();
+    let mut room = [0u8; 65536];
     let mut bytes: u64 = 0;
     while bytes < MOST {
-        let got = libc::read(file, &mut room);
-        if got < 0 {
-            cannot_read(path);
-            return Length {
-                is_known: false,
-                bytes: 0,
-            };
+        match file.read(&mut room) {
+            Ok(0) => {
+                return Length {
+                    is_known: true,
+                    bytes,
+                };
+            }
+            Ok(n) => bytes += n as u64,
+            Err(e) => {
+                cannot_read(rt, path, &e);
+                return Length {
+                    is_known: false,
+                    bytes: 0,
+                };
+            }
         }
-        let n = io::count(got, &room);
-        if n == 0 {
-            return Length {
-                is_known: true,
-                bytes,
-            };
-        }
-        bytes += n as u64;
     }
-    too_long(path);
+    too_long(rt, path);
     Length {
         is_known: false,
         bytes: 0,
@@ -85,16 +109,19 @@ pub fn length_of(file: i32, path: &[u8]) -> Length
 }
 
 // Whether a file has come to its end. Says so where it has not.
-pub fn has_ended(file: i32, path: &[u8]) -> bool {
+pub fn has_ended(rt: HostRuntime, file: &mut File, path: &[u8]) -> bool {
     let mut one = [0u8; 1];
-    let got = libc::read(file, &mut one);
-    if got < 0 {
-        cannot_read(path);
+    match file.read(&mut one) {
+        Ok(0) => true,
+        Ok(_) => {
+            changed(rt, path);
+            false
+        }
+        Err(e) => {
+            cannot_read(rt, path, &e);
+            false
+        }
     }
-    if 0 < got {
-        changed(path);
-    }
-    got == 0
 }
 
 // The patterns that the bytes spell, four each.
@@ -108,22 +135,28 @@ fn gather(bytes: &[u8], list: &mut [u32])
 }
 
 // Reads one symbol's first or second parts, and answers whether all of them came. Says why they did not.
-fn read_parts(file: i32, path: &[u8], list: &mut [u32]) -> bool
+fn read_parts(rt: HostRuntime, file: &mut File, path: &[u8], list: &mut [u32]) -> bool
     requires { length list.old ≤ 4096 }
 {
     let mut bytes = [0u8; PARTS];
-    let is_whole = io::read_full(file, &mut bytes) == PARTS;
+    let is_whole = manners::read_full(file, &mut bytes) == PARTS;
     if is_whole {
         gather(&bytes, list);
-    } else if has_ended(file, path) {
-        changed(path);
+    } else if has_ended(rt, file, path) {
+        changed(rt, path);
     }
     is_whole
 }
 
 // Reads one symbol, and answers whether all of it came.
-pub fn read_symbol(file: i32, path: &[u8], firsts: &mut [u32], seconds: &mut [u32]) -> bool
+pub fn read_symbol(
+    rt: HostRuntime,
+    file: &mut File,
+    path: &[u8],
+    firsts: &mut [u32],
+    seconds: &mut [u32],
+) -> bool
     requires { (length firsts.old ≤ 4096) × (length seconds.old ≤ 4096) }
 {
-    read_parts(file, path, firsts) && read_parts(file, path, seconds)
+    read_parts(rt, file, path, firsts) && read_parts(rt, file, path, seconds)
 }

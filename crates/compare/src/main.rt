@@ -2,13 +2,16 @@
 // cell and the four patterns, first and second part of A, first and second part of B; at the end a line with the number of these cells. A
 // refusal writes nothing there, so the lengths are taken first, and the files are read again then. Of the cells it holds one symbol's of each
 // file at a time.
+#![tactic(auto)]
+
 mod file;
 
 ghost use Rattle.std.specs.Prelude.{◌*◌, ◌≤◌, ◌≡◌, length};
 ghost use Rattle.rules.specs.Compare.{grids, differing};
 ghost use Rattle.rules.specs.Demands.{Symbols};
 
-use manners::{Request, put};
+use manners::{PATH_MAX, Request, put};
+use std::fs::File;
 
 // Bytes of a symbol.
 const SYMBOL: u64 = 32_768;
@@ -26,8 +29,8 @@ struct Found {
 }
 
 // Writes the first n bytes of a buffer, and answers whether it could.
-fn write(out: &[u8], n: usize) -> bool {
-    manners::write_part(b"compare", out, n)
+fn write(rt: HostRuntime, out: &[u8], n: usize) -> bool {
+    manners::write_part(rt, b"compare", out, n)
 }
 
 // A cell's two patterns, each behind a blank.
@@ -56,7 +59,7 @@ fn line(out: &mut [u8], at: usize, six: &[u32]) -> usize
 }
 
 // Writes the lines for the first n differences of a list, and answers whether it could.
-fn write_lines(list: &[u32], n: usize) -> bool
+fn write_lines(rt: HostRuntime, list: &[u32], n: usize) -> bool
     requires { 6 * n ≤ length list.now }
 {
     let mut out = [0u8; ROOM];
@@ -66,17 +69,18 @@ fn write_lines(list: &[u32], n: usize) -> bool
         let end = from + 6;
         at = line(&mut out, at, &list[from..end]);
         if ROOM - LINE < at {
-            if !write(&out, at) {
+            if !write(rt, &out, at) {
                 return false;
             }
             at = 0;
         }
     }
-    write(&out, at)
+    write(rt, &out, at)
 }
 
 // Compares symbol y of both files, and writes its lines: as many as the rule has differences.
 fn compare_lists(
+    rt: HostRuntime,
     y: u32,
     firsts_a: &[u32],
     seconds_a: &[u32],
@@ -90,7 +94,7 @@ fn compare_lists(
     let mut list = [0u32; 24_576];
     let c = comparing::compare_from(y, firsts_a, seconds_a, firsts_b, seconds_b, &mut list);
     Found {
-        is_done: write_lines(&list, c.count as usize),
+        is_done: write_lines(rt, &list, c.count as usize),
         count: c.count,
     }
 }
@@ -105,98 +109,111 @@ fn stopped() -> Found
 }
 
 // Reads symbol y of both files, and compares it.
-fn compare_one(a: i32, path_a: &[u8], b: i32, path_b: &[u8], y: u32) -> Found
+fn compare_one(
+    rt: HostRuntime,
+    a: &mut File,
+    path_a: &[u8],
+    b: &mut File,
+    path_b: &[u8],
+    y: u32,
+) -> Found
     ensures { result.count ≤ 4096 }
 {
     let mut firsts_a = [0u32; 4096];
     let mut seconds_a = [0u32; 4096];
     let mut firsts_b = [0u32; 4096];
     let mut seconds_b = [0u32; 4096];
-    if !file::read_symbol(a, path_a, &mut firsts_a, &mut seconds_a) {
+    if !file::read_symbol(rt, a, path_a, &mut firsts_a, &mut seconds_a) {
         return stopped();
     }
-    if !file::read_symbol(b, path_b, &mut firsts_b, &mut seconds_b) {
+    if !file::read_symbol(rt, b, path_b, &mut firsts_b, &mut seconds_b) {
         return stopped();
     }
-    compare_lists(y, &firsts_a, &seconds_a, &firsts_b, &seconds_b)
+    compare_lists(rt, y, &firsts_a, &seconds_a, &firsts_b, &seconds_b)
 }
 
 // The line with the number of cells that differ; bin/ is told where there are some.
-fn end(count: u64) {
+fn end(rt: HostRuntime, count: u64) {
     let mut out = [0u8; 32];
     let at = put::decimal(&mut out, 0, count);
     let n = put::bytes(&mut out, at, b"\n");
-    if write(&out, n) && count != 0 {
-        manners::differ(b"compare");
+    if write(rt, &out, n) && count != 0 {
+        manners::differ(rt, b"compare");
     }
 }
 
 // The symbols in their order, as long as nothing is in the way.
-fn compare_all(a: i32, path_a: &[u8], b: i32, path_b: &[u8], symbols: u32) {
+fn compare_all(
+    rt: HostRuntime,
+    a: &mut File,
+    path_a: &[u8],
+    b: &mut File,
+    path_b: &[u8],
+    symbols: u32,
+) {
     let mut count: u64 = 0;
     for y in 0..symbols {
-        let found = compare_one(a, path_a, b, path_b, y);
+        let found = compare_one(rt, a, path_a, b, path_b, y);
         if !found.is_done {
             return;
         }
         count += found.count;
     }
-    if file::has_ended(a, path_a) && file::has_ended(b, path_b) {
-        end(count);
+    if file::has_ended(rt, a, path_a) && file::has_ended(rt, b, path_b) {
+        end(rt, count);
     }
 }
 
 // Takes the lengths, which are refused or say how many symbols there are to compare.
-fn compare_files(a: i32, path_a: &[u8], b: i32, path_b: &[u8]) {
-    let in_a = file::length_of(a, path_a);
+fn compare_files(rt: HostRuntime, a: &mut File, path_a: &[u8], b: &mut File, path_b: &[u8]) {
+    let in_a = file::length_of(rt, a, path_a);
     if !in_a.is_known {
         return;
     }
-    let in_b = file::length_of(b, path_b);
+    let in_b = file::length_of(rt, b, path_b);
     if !in_b.is_known {
         return;
     }
     if in_a.bytes != in_b.bytes {
-        return manners::refuse_unequal(18, in_a.bytes, in_b.bytes);
+        return manners::refuse_unequal(rt, 18, in_a.bytes, in_b.bytes);
     }
     if in_a.bytes % SYMBOL != 0 {
-        return manners::refuse_both(7, in_a.bytes);
+        return manners::refuse_both(rt, 7, in_a.bytes);
     }
-    if file::rewind(a, path_a) && file::rewind(b, path_b) {
-        compare_all(a, path_a, b, path_b, (in_a.bytes / SYMBOL) as u32);
+    if file::rewind(rt, a, path_a) && file::rewind(rt, b, path_b) {
+        compare_all(rt, a, path_a, b, path_b, (in_a.bytes / SYMBOL) as u32);
     }
 }
 
 // Opens the files.
-fn compare_paths(path_a: &[u8], path_b: &[u8]) {
-    let a = file::open(path_a);
-    if a < 0 {
+fn compare_paths(rt: HostRuntime, path_a: &[u8], path_b: &[u8]) {
+    let Some(mut a) = file::open(rt, path_a) else {
         return;
-    }
-    let b = file::open(path_b);
-    if b < 0 {
+    };
+    let Some(mut b) = file::open(rt, path_b) else {
         return;
-    }
-    compare_files(a, path_a, b, path_b);
+    };
+    compare_files(rt, &mut a, path_a, &mut b, path_b);
 }
 
 // Takes the two words as paths.
-fn compare() {
-    let mut path_a = io::buffer();
-    let mut path_b = io::buffer();
-    let n_a = os::arg(1, &mut path_a);
-    if os::errno() != 0 {
-        return manners::cannot(b"compare", b"read A");
-    }
-    let n_b = os::arg(2, &mut path_b);
-    if os::errno() != 0 {
-        return manners::cannot(b"compare", b"read B");
-    }
-    compare_paths(&path_a[..n_a], &path_b[..n_b]);
+fn compare(rt: HostRuntime) {
+    let mut path_a = [0u8; PATH_MAX];
+    let mut path_b = [0u8; PATH_MAX];
+    let n_a = match manners::word(rt, 1, &mut path_a) {
+        Ok(n) => n,
+        Err(e) => return manners::cannot(rt, b"compare", b"read A", &e),
+    };
+    let n_b = match manners::word(rt, 2, &mut path_b) {
+        Ok(n) => n,
+        Err(e) => return manners::cannot(rt, b"compare", b"read B", &e),
+    };
+    compare_paths(rt, &path_a[..n_a], &path_b[..n_b]);
 }
 
-fn help() {
+fn help(rt: HostRuntime) {
     manners::write(
+        rt,
         b"compare",
         b"compare A B
 
@@ -216,10 +233,10 @@ bin/compare ends with 0 when no cell differs, 1 when one does, 2 when it refused
     );
 }
 
-fn main() {
-    match manners::asked() {
-        Request::Help => help(),
-        Request::TwoWords => compare(),
-        _ => manners::usage(b"compare A B; compare --help says more"),
+fn main(rt: HostRuntime) {
+    match manners::asked(rt) {
+        Request::Help => help(rt),
+        Request::TwoWords => compare(rt),
+        _ => manners::usage(rt, b"compare A B; compare --help says more"),
     }
 }

@@ -72,7 +72,7 @@ pub fn same(a: &[u8], b: &[u8]) -> bool {
 
 // Puts argument i at the start of a buffer, and answers its length; 0 where there is none, or where it is longer than the buffer, which then has
 // its first bytes.
-fn argument(rt: HostRuntime, i: usize, room: &mut [u8]) -> usize
+pub fn argument(rt: HostRuntime, i: usize, room: &mut [u8]) -> usize
     ensures { result ≤ length room.new }
 {
     match rt.arg(i, room) {

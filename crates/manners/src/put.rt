@@ -99,11 +99,8 @@ pub fn words(out: &mut [u8], at: usize, e: &Error) -> usize {
         Some(code) => added(code),
         None => 0,
     };
-    if k <= n && n <= ROOM {
-        bytes(out, at, &room[0..n - k])
-    } else {
-        at
-    }
+    let end = n.min(ROOM).saturating_sub(k);
+    bytes(out, at, &room[0..end])
 }
 
 // Writes the first n bytes of a buffer, and answers whether it could.

@@ -10,7 +10,7 @@ use rules::Profile;
 const MOST: usize = 16_384;
 
 // What is wrong, if anything.
-#[derive(Drop)]
+#[derive(Clone, Copy)]
 pub enum Fault {
     Fine,
     Unknown,
@@ -35,7 +35,7 @@ pub enum Judged {
 
 // The numbers of all fields, how many of each field there are, and of the first mistake its kind, its field and where in its line the word
 // stands that it speaks of.
-#[derive(Drop)]
+#[derive(Clone, Copy)]
 pub struct Draft {
     pub values: [u32; 60],
     pub counts: [usize; 6],
@@ -46,7 +46,7 @@ pub struct Draft {
 }
 
 // The draft, the number of the line that its mistake is in, 0 where it is in none, and where the line that was read last starts.
-#[derive(Drop)]
+#[derive(Clone, Copy)]
 pub struct Read {
     pub draft: Draft,
     pub line: usize,

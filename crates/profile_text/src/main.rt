@@ -16,6 +16,8 @@
 // Lines end as any editor ends them, and a byte order mark may stand before the text. A bad text, its first mistake, or a refused profile
 // gives one line on standard error and nothing on standard output. The bytes always come from profile::write, and what a profile says from
 // profile::read: the ranges are tested here for the messages' sake, twins only there.
+#![tactic(auto)]
+
 mod draft;
 mod fields;
 mod number;
@@ -24,7 +26,6 @@ mod scan;
 mod show;
 
 use draft::Draft;
-use libc::STDIN_FILENO;
 use manners::Request;
 
 // The longest text.
@@ -42,9 +43,9 @@ enum Command {
 }
 
 // The one word after the program's name.
-fn asked() -> Command {
+fn asked(rt: HostRuntime) -> Command {
     let mut word = [0u8; 8];
-    let n = os::arg(1, &mut word);
+    let n = manners::argument(rt, 1, &mut word);
     if manners::same(&word[..n], b"make") {
         return Command::Make;
     }
@@ -55,70 +56,72 @@ fn asked() -> Command {
 }
 
 // The profile of a text without mistakes in its lines; twins are found last of all.
-fn write_profile(d: Draft) {
+fn write_profile(rt: HostRuntime, d: Draft) {
     let p = draft::profile_of(d);
     let w = profile::write(p);
     if w.number == 46 {
-        return say::twins(p, w.place);
+        return say::twins(rt, p, w.place);
     }
     if w.number != 0 {
-        return manners::refuse(w.number);
+        return manners::refuse(rt, w.number);
     }
     let bytes = w.bytes;
-    manners::write_part(b"profile_text", &bytes, w.count);
+    manners::write_part(rt, b"profile_text", &bytes, w.count);
 }
 
 // The profile's bytes, or the text's first mistake.
-fn make_profile(input: &[u8]) {
+fn make_profile(rt: HostRuntime, input: &[u8]) {
     if MOST < input.len() {
-        return say::too_long();
+        return say::too_long(rt);
     }
     let at = scan::start(input);
     let text = &input[at..];
     let r = draft::read_text(text);
     let d = r.draft;
     if draft::is_fine(d) {
-        return write_profile(d);
+        return write_profile(rt, d);
     }
     let start = r.start;
     if start <= text.len() {
-        say::mistake(r.line, d, &text[start..]);
+        say::mistake(rt, r.line, d, &text[start..]);
     }
 }
 
 // The profile's text, or its refusal.
-fn show_profile(bytes: &[u8]) {
+fn show_profile(rt: HostRuntime, bytes: &[u8]) {
     let r = profile::read(bytes);
     if r.number != 0 {
-        return manners::refuse_profile(r.number, r.place, bytes);
+        return manners::refuse_profile(rt, r.number, r.place, bytes);
     }
     let p = r.profile;
     let mut out = [0u8; ROOM];
     let n = show::text(&mut out, p);
-    manners::write_part(b"profile_text", &out, n);
+    manners::write_part(rt, b"profile_text", &out, n);
 }
 
 // Reads the input, and one byte more than the longest text to see that it is longer; a longer profile is refused for its first bytes.
-fn run(command: Command) {
+fn run(rt: HostRuntime, command: Command) {
     let mut input = [0u8; MOST + 1];
-    let n = io::read_full(STDIN_FILENO, &mut input);
-    if n <= MOST && manners::is_unread(b"profile_text") {
+    let n = manners::read_full(&mut rt.stdin(), &mut input);
+    if n <= MOST && manners::is_unread(rt, b"profile_text") {
         return;
     }
     match command {
-        Command::Make => make_profile(&input[..n]),
-        _ => show_profile(&input[..n]),
+        Command::Make => make_profile(rt, &input[..n]),
+        _ => show_profile(rt, &input[..n]),
     }
 }
 
-fn usage() {
+fn usage(rt: HostRuntime) {
     manners::usage(
+        rt,
         b"profile_text make < text > profile, or profile_text show < profile > text; profile_text --help says more",
     );
 }
 
-fn help() {
+fn help(rt: HostRuntime) {
     manners::write(
+        rt,
         b"profile_text",
         b"profile_text make < text > profile      a profile's bytes from a text
 profile_text show < profile > text      a text from which make makes the same bytes
@@ -144,18 +147,18 @@ bin/profile_text ends with 0 when it is done, 1 when it refused, 2 for a wrong u
 }
 
 // Does what the word asks.
-fn obey() {
-    let command = asked();
+fn obey(rt: HostRuntime) {
+    let command = asked(rt);
     if let Command::Neither = command {
-        return usage();
+        return usage(rt);
     }
-    run(command);
+    run(rt, command);
 }
 
-fn main() {
-    match manners::asked() {
-        Request::Help => help(),
-        Request::Word => obey(),
-        _ => usage(),
+fn main(rt: HostRuntime) {
+    match manners::asked(rt) {
+        Request::Help => help(rt),
+        Request::Word => obey(rt),
+        _ => usage(rt),
     }
 }

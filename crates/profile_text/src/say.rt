@@ -178,27 +178,27 @@ fn what(out: &mut [u8], at: usize, d: Draft, f: usize, s: &[u8]) -> usize {
 }
 
 // Says a text's first mistake, in line n; s is the text from that line on.
-pub fn mistake(n: usize, d: Draft, s: &[u8]) {
+pub fn mistake(rt: HostRuntime, n: usize, d: Draft, s: &[u8]) {
     let mut out = [0u8; ROOM];
     let at = place(&mut out, n);
     let at = what(&mut out, at, d, d.field, shown(s, d.from, d.to));
-    put::say(&mut out, at);
+    put::say(rt, &mut out, at);
 }
 
 // Says that a slot repeats an earlier one of its symbol: no line of the text is at fault by itself.
-pub fn twins(p: Profile, slot: usize) {
+pub fn twins(rt: HostRuntime, p: Profile, slot: usize) {
     let masks = p.masks;
     let seeds = p.seeds;
     let mut out = [0u8; ROOM];
     let at = place(&mut out, 0);
     let at = twin::words(&mut out, at, masks, seeds, slot);
-    put::say(&mut out, at);
+    put::say(rt, &mut out, at);
 }
 
 // Says that a text is too long.
-pub fn too_long() {
+pub fn too_long(rt: HostRuntime) {
     let mut out = [0u8; ROOM];
     let at = place(&mut out, 0);
     let at = put::bytes(&mut out, at, b"longer than 16384 bytes");
-    put::say(&mut out, at);
+    put::say(rt, &mut out, at);
 }

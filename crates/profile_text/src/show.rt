@@ -83,7 +83,7 @@ fn places(x: f32) -> usize {
 // m / 10^n as a decimal number: at least one digit before the point.
 fn quotient(out: &mut [u8], at: usize, m: u32, n: usize) -> usize {
     let mut text = [0u8; 20];
-    let k = io::decimal(m as u64, &mut text);
+    let k = put::decimal(&mut text, 0, m as u64).min(20);
     split(out, at, &text[..k], n)
 }
 

@@ -1,6 +1,8 @@
 // Adds up receive's reports. Standard input: any number of them, one after the other. Standard output: a line for each packet position, in rising
 // order, with its eight totals, then a line with the number of received blocks. A report that isn't one, or that is refused, is named by its line on
 // standard error, and nothing is written to standard output: so the totals are kept until the input has ended. Of the input it holds one buffer.
+#![tactic(auto)]
+
 mod report;
 mod say;
 
@@ -10,10 +12,10 @@ ghost use Rattle.rules.specs.Totals.{no_totals};
 ghost use Rattle.totals.specs.Month.{Month};
 ghost use Rattle.totals.specs.Reading.{Inside};
 
-use libc::STDIN_FILENO;
 use manners::{Request, put};
 use report::Reader;
 use rules::Receipt;
+use std::io::{Error, Read};
 
 // How many totals a position has, and how many there are in all.
 const KINDS: usize = 8;
@@ -27,14 +29,14 @@ const MOST: u64 = 4_611_686_018_427_387_904;
 const ROOM: usize = 4096;
 
 // What adding a report answered, and the number of blocks then.
-#[derive(Drop)]
+#[derive(Clone, Copy)]
 struct Sum {
     number: u32,
     blocks: u64,
 }
 
 // How far the input is read: the report at hand, the number of blocks so far, and whether something is in the way, which was said.
-#[derive(Drop)]
+#[derive(Clone, Copy)]
 struct Progress {
     reader: Reader,
     blocks: u64,
@@ -64,13 +66,13 @@ fn add(totals: &mut [u64], blocks: u64, a: Receipt) -> Sum
 }
 
 // Adds the report that is whole, and goes on behind it.
-fn take_report(totals: &mut [u64], blocks: u64, r: Reader) -> Progress
+fn take_report(rt: HostRuntime, totals: &mut [u64], blocks: u64, r: Reader) -> Progress
     requires { Month totals.old blocks × (blocks < 9223372036854775808) }
     ensures { Month totals.new result.blocks × (result.blocks ≤ blocks + 1) × (result.reader.line ≡ r.line) × Inside result.reader }
 {
     let sum = add(totals, blocks, report::receipt(r));
     if sum.number != 0 {
-        manners::refuse_report(sum.number, r.first);
+        manners::refuse_report(rt, sum.number, r.first);
     }
     Progress {
         reader: report::start(r.line),
@@ -80,17 +82,17 @@ fn take_report(totals: &mut [u64], blocks: u64, r: Reader) -> Progress
 }
 
 // Takes a byte: the report goes on, or is whole and is added, or its line is wrong, which is said.
-fn take_byte(totals: &mut [u64], p: Progress, b: u8) -> Progress
+fn take_byte(rt: HostRuntime, totals: &mut [u64], p: Progress, b: u8) -> Progress
     requires { Month totals.old p.blocks × (p.blocks < 9223372036854775808) × (p.reader.line < 9223372036854775808) × Inside p.reader }
     ensures { Month totals.new result.blocks × (result.blocks ≤ p.blocks + 1) × (result.reader.line ≤ p.reader.line + 1) × Inside result.reader }
 {
     let r = p.reader;
     let r = report::next(r, b);
     if report::NUMBERS <= r.at {
-        return take_report(totals, p.blocks, r);
+        return take_report(rt, totals, p.blocks, r);
     }
     if r.is_wrong {
-        say::wrong(r);
+        say::wrong(rt, r);
     }
     Progress {
         reader: r,
@@ -100,7 +102,7 @@ fn take_byte(totals: &mut [u64], p: Progress, b: u8) -> Progress
 }
 
 // Takes some bytes, as long as nothing is in the way.
-fn take_bytes(totals: &mut [u64], p: Progress, bytes: &[u8]) -> Progress
+fn take_bytes(rt: HostRuntime, totals: &mut [u64], p: Progress, bytes: &[u8]) -> Progress
     requires { Month totals.old p.blocks × (p.blocks + length bytes.now < 9223372036854775808)
         × (p.reader.line + length bytes.now < 9223372036854775808) × Inside p.reader }
     ensures { Month totals.new result.blocks × (result.blocks ≤ p.blocks + length bytes.now)
@@ -108,7 +110,7 @@ fn take_bytes(totals: &mut [u64], p: Progress, bytes: &[u8]) -> Progress
 {
     let mut n = p;
     for i in 0..bytes.len() {
-        n = take_byte(totals, n, bytes[i]);
+        n = take_byte(rt, totals, n, bytes[i]);
         if n.is_stopped {
             return n;
         }
@@ -142,25 +144,25 @@ fn positions(out: &mut [u8], totals: &[u64]) -> usize
 }
 
 // Writes the totals of all that was taken, and the number of its blocks.
-fn print(totals: &[u64], blocks: u64)
+fn print(rt: HostRuntime, totals: &[u64], blocks: u64)
     requires { Month totals.now blocks × (length totals.now ≡ 128) }
 {
     let mut out = [0u8; ROOM];
     let at = positions(&mut out, totals);
     let at = put::decimal(&mut out, at, blocks);
     let n = put::bytes(&mut out, at, b"\n");
-    manners::write_part(b"totals", &out, n);
+    manners::write_part(rt, b"totals", &out, n);
 }
 
 // The input has ended.
-fn end(totals: &[u64], p: Progress)
+fn end(rt: HostRuntime, totals: &[u64], p: Progress)
     requires { Month totals.now p.blocks × (length totals.now ≡ 128) }
 {
     let r = p.reader;
     if report::is_between(r) {
-        print(totals, p.blocks);
+        print(rt, totals, p.blocks);
     } else {
-        say::cut(r);
+        say::cut(rt, r);
     }
 }
 
@@ -181,42 +183,42 @@ fn begun() -> Progress
     }
 }
 
-// Says that the input can't be read, by errno.
-fn unread() {
-    manners::cannot(b"totals", b"read standard input");
+// Says that the input can't be read, by the system's error.
+fn unread(rt: HostRuntime, e: &Error) {
+    manners::cannot(rt, b"totals", b"read standard input", e);
 }
 
 // Says that the input is too long.
-fn too_long() {
-    manners::cannot_file_since(b"totals", b"read", b"standard input", b"it is too long");
+fn too_long(rt: HostRuntime) {
+    manners::cannot_file_since(rt, b"totals", b"read", b"standard input", b"it is too long");
 }
 
 // Reads the input to its end, and adds up what it has.
-fn add_up() {
+fn add_up(rt: HostRuntime) {
     let mut totals = no_totals();
-    let mut room = io::large_buffer();
+    let mut room = [0u8; 65536];
     let mut p = begun();
     let mut bytes: u64 = 0;
     while bytes < MOST {
-        let got = libc::read(STDIN_FILENO, &mut room);
-        if got < 0 {
-            return unread();
-        }
-        let n = io::count(got, &room);
+        let n = match rt.stdin().read(&mut room) {
+            Ok(n) => n,
+            Err(e) => return unread(rt, &e),
+        };
         if n == 0 {
-            return end(&totals, p);
+            return end(rt, &totals, p);
         }
-        p = take_bytes(&mut totals, p, &room[..n]);
+        p = take_bytes(rt, &mut totals, p, &room[..n]);
         if p.is_stopped {
             return;
         }
         bytes += n as u64;
     }
-    too_long();
+    too_long(rt);
 }
 
-fn help() {
+fn help(rt: HostRuntime) {
     manners::write(
+        rt,
         b"totals",
         b"totals < reports > totals
 
@@ -237,10 +239,10 @@ bin/totals ends with 0 when it is done, 1 when it refused, 2 for a wrong use or 
     );
 }
 
-fn main() {
-    match manners::asked() {
-        Request::Help => help(),
-        Request::Nothing => add_up(),
-        _ => manners::usage(b"totals < reports > totals; totals --help says more"),
+fn main(rt: HostRuntime) {
+    match manners::asked(rt) {
+        Request::Help => help(rt),
+        Request::Nothing => add_up(rt),
+        _ => manners::usage(rt, b"totals < reports > totals; totals --help says more"),
     }
 }

@@ -10,7 +10,7 @@ pub const NUMBERS: usize = 34;
 
 // What was read: the line at hand and the one where its report begins, both from 1; which of the report's numbers is at hand, what its digits so far
 // say, and whether there are any; the report so far, in which each digit counts at once; whether the line at hand is wrong.
-#[derive(Drop)]
+#[derive(Clone, Copy)]
 pub struct Reader {
     pub line: u64,
     pub first: u64,

@@ -35,20 +35,20 @@ fn due(out: &mut [u8], at: usize, r: Reader) -> usize
 }
 
 // The line at hand is none of a report's.
-pub fn wrong(r: Reader)
+pub fn wrong(rt: HostRuntime, r: Reader)
     requires { r.at < 34 }
 {
     let mut out = [0u8; ROOM];
     let at = line(&mut out, r.line);
     let at = due(&mut out, at, r);
-    put::say(&mut out, at);
+    put::say(rt, &mut out, at);
 }
 
 // The input ends in the line at hand.
-pub fn cut(r: Reader) {
+pub fn cut(rt: HostRuntime, r: Reader) {
     let mut out = [0u8; ROOM];
     let at = line(&mut out, r.line);
     let at = put::bytes(&mut out, at, b"the input ends inside ");
     let at = report_at(&mut out, at, r.first);
-    put::say(&mut out, at);
+    put::say(rt, &mut out, at);
 }
