@@ -1,12 +1,11 @@
 -- The loop's invariant: the first j columns are codewords, and the others are as they were.
 use mathlib.Core.Bool.{not}
-use mathlib.Core.Path.{◌≡◌, refl, sym, ap, ◌∙◌, subst}
+use mathlib.Core.Path.{◌≡◌, sym, ap, ◌∙◌, subst}
 use mathlib.Core.List.{List}
 use Prim.Native.Nat.{ℕ, ◌+◌, ◌-◌, ◌%◌, ◌^◌, ◌≤◌, ◌<◌}
 use native.Mathlib.Nat.{zero-div}
 use native.Mathlib.Decide.{ℕ_discrete, dec_lt}
 use lib.Dec.{T}
-use lib.ListN.{length}
 use borrow.Author.Tests.{ne_eqb}
 use Rattle.rules.specs.Bits.{row}
 use Rattle.rules.specs.Outer.{column, encoded, marked, is_k}
@@ -16,7 +15,6 @@ use Rattle.outer.specs.Steps.{Put}
 use Rattle.laws.specs.Filled.{up_to, up_to-below, up_to-from}
 use Rattle.outer.proofs.Roots.{k-range, passed, refused, encoded-same}
 use Rattle.outer.proofs.Answers.{parity-bad-k, parity-bad-length, parity-done}
-use borrow.Author.Rules.{rules}
 use native.Mathlib.Omega.{arith}
 use Rattle.outer.proofs.fill_parity.Invariants.{Made}
 use Rattle.outer.proofs.fill_parity.Goals.{After-is_k, Else-not-is_k}

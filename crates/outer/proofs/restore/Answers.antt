@@ -6,13 +6,11 @@ use Prim.Native.Nat.{ℕ, ◌-◌, ◌≤◌, ◌<◌}
 use lib.Count.{ones}
 use lib.Dec.{T}
 use lib.ListN.{length}
-use borrow.Author.Tests.{not-true, not-false}
 use Rattle.rules.specs.Outer.{column, is_k, Codeword, Agree, Restored}
 use Rattle.outer.specs.Solve.{solved}
 use Rattle.outer.specs.Steps.{Solved, Works}
 use Rattle.outer.proofs.Roots.{k-range, passed, refused, rate, codeword-same}
 use Rattle.outer.proofs.Solve.{solved-agrees, none-agrees}
-use borrow.Author.Rules.{rules}
 use native.Mathlib.Omega.{arith}
 use Rattle.outer.proofs.restore.Goals.{After-is_k, Else-block-ne1952, Else-lost-k, Else-not-all_solved, Else-not-is_k}
 use Rattle.outer.proofs.restore.Goals as goal

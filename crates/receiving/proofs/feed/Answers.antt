@@ -4,7 +4,6 @@ use Prim.Native.Nat.{◌+◌, ◌*◌, ◌≤◌}
 use native.Mathlib.Omega.{arith}
 use lib.Dec.{T}
 use lib.ListN.{length}
-use borrow.Author.Rules.{rules}
 use Rattle.rules.specs.Modes.{symbols}
 use Rattle.rules.specs.Profile.{faultless}
 use Rattle.rules.specs.Pieces.{is_state, seen}

@@ -1,8 +1,7 @@
 -- `sending::block_of` meets its contract. The loop's invariant: the bytes before i are copied.
 use mathlib.Core.Path.{◌≡◌, refl, sym, subst}
-use Prim.Native.Nat.{ℕ, ◌*◌, ◌-◌, ◌≤◌}
+use Prim.Native.Nat.{ℕ, ◌*◌}
 use native.Mathlib.Omega.{arith}
-use lib.ListN.{length}
 use Rattle.rules.specs.Bits.{row}
 use Rattle.laws.specs.Holds.{Holds}
 use Rattle.laws.specs.Filled.{up_to, holds-new, holds-next}

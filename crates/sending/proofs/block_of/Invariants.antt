@@ -1,13 +1,10 @@
 -- `sending::block_of` meets its contract. The loop's invariant: the bytes before i are copied.
-use mathlib.Core.Path.{◌≡◌, refl, sym, subst}
-use Prim.Native.Nat.{ℕ, ◌*◌, ◌-◌, ◌≤◌}
-use native.Mathlib.Omega.{arith}
+use mathlib.Core.Path.{◌≡◌}
+use Prim.Native.Nat.{◌≤◌}
 use lib.ListN.{length}
 use Rattle.rules.specs.Bits.{row}
 use Rattle.laws.specs.Holds.{Holds}
-use Rattle.laws.specs.Filled.{up_to, holds-new, holds-next}
-use Rattle.outer.proofs.Roots.{k-range}
-use Rattle.sending.proofs.Packets.{block-packet}
+use Rattle.laws.specs.Filled.{up_to}
 use Rattle.sending.proofs.block_of.Given as goal
 
 abbrev pub invariant-loop-i : goal.invariant-loop-i

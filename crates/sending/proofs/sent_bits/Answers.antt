@@ -1,5 +1,4 @@
 -- `sending::sent_bits` meets its contract.
-use borrow.Author.Rules.{rules}
 use Rattle.profile.proofs.InRange.{ranges}
 use Rattle.block.proofs.Scrambling.{scrambled-block}
 use Rattle.sending.proofs.Sent.{sent-row}

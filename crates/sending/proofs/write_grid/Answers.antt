@@ -1,17 +1,16 @@
 -- `sending::write_grid` meets its contract. The loop's invariant: the symbols before y are written in both lists.
 use mathlib.Core.Path.{◌≡◌, refl, ◌∙◌}
 use mathlib.Core.List.{List}
-use Prim.Native.Nat.{◌+◌, ◌*◌, ◌-◌, ◌≤◌}
+use Prim.Native.Nat.{◌+◌, ◌*◌, ◌≤◌}
 use native.Mathlib.Omega.{arith}
 use lib.Ieee.{Float}
 use lib.ListN.{length, get_or}
 use Rattle.rules.specs.Points.{zero_part, first_part, second_part}
 use Rattle.rules.specs.Modes.{symbols}
 use Rattle.laws.specs.Holds.{Holds}
-use Rattle.laws.specs.Filled.{up_to, holds-first, holds-whole}
+use Rattle.laws.specs.Filled.{holds-first, holds-whole}
 use Rattle.laws.specs.Parts.{part, part-long}
 use Rattle.cells.proofs.Fits.{write_done}
-use Rattle.sending.specs.Steps.{grid_cell}
 use Rattle.sending.proofs.Grid.{grid-turn}
 use Rattle.sending.proofs.write_grid.Goals as goal
 

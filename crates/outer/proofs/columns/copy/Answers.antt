@@ -1,10 +1,8 @@
 -- The loop's invariant: the first i elements are those of `from`.
 use mathlib.Core.Path.{refl, sym, ◌∙◌}
-use Prim.Native.Nat.{◌-◌, ◌≤◌}
-use lib.ListN.{length}
 use Rattle.rules.specs.Bits.{row}
-use Rattle.laws.specs.Holds.{Holds, holds_self, holds_one}
-use Rattle.laws.specs.Filled.{up_to, holds-first, holds-next, holds-whole}
+use Rattle.laws.specs.Holds.{holds_self, holds_one}
+use Rattle.laws.specs.Filled.{holds-first, holds-next, holds-whole}
 use native.Mathlib.Omega.{arith}
 use Rattle.outer.proofs.columns.copy.Goals as goal
 

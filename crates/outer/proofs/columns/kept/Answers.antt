@@ -1,15 +1,11 @@
 -- The loop's invariant: the first p bytes are there, and zeros follow.
 use mathlib.Core.Path.{sym, ap, ◌∙◌}
 use mathlib.Core.Bool.{Bool}
-use mathlib.Core.Logic.{⊎_elim}
-use Prim.Native.Nat.{ℕ, ◌-◌, ◌≤◌}
-use borrow.Author.Tests.{not-true, not-false}
+use Prim.Native.Nat.{ℕ}
 use Rattle.rules.specs.Bits.{pick}
 use Rattle.rules.specs.Outer.{column}
-use Rattle.laws.specs.Holds.{Holds}
 use Rattle.outer.specs.Solve.{kept}
-use Rattle.laws.specs.Filled.{up_to, holds-next, holds-skip, holds-whole, holds-new}
-use borrow.Author.Rules.{rules}
+use Rattle.laws.specs.Filled.{holds-next, holds-skip, holds-whole, holds-new}
 use native.Mathlib.Omega.{arith}
 use Rattle.outer.proofs.columns.kept.Goals.{else-not-lost_at, then-not-lost_at}
 use Rattle.outer.proofs.columns.kept.Goals as goal

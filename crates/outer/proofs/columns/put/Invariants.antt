@@ -1,12 +1,9 @@
 -- The loop's invariant: the first p bytes of the column are written.
-use mathlib.Core.Path.{◌≡◌, refl, sym, ◌∙◌}
-use Prim.Native.Nat.{ℕ, ◌+◌, ◌*◌, ◌-◌, ◌≤◌, ◌<◌}
-use lib.ListN.{length, set, length-set}
-use lib.Seq.{get_or-set_same, get_or-set_other}
-use borrow.Author.Count.{below_more}
+use mathlib.Core.Path.{◌≡◌}
+use Prim.Native.Nat.{ℕ, ◌≤◌, ◌<◌}
+use lib.ListN.{length}
 use Rattle.rules.specs.Bits.{row}
 use Rattle.rules.specs.Outer.{column}
-use native.Mathlib.Omega.{arith}
 use Rattle.outer.proofs.columns.put.Given as goal
 
 abbrev pub invariant-loop-p : goal.invariant-loop-p

@@ -1,6 +1,5 @@
 -- By the test.
 use borrow.Author.Tests.{lt-ltb, le-ltb}
-use borrow.Author.Rules.{rules}
 use Rattle.outer.proofs.division.below.Goals as goal
 
 pub returns-then-i-r : goal.returns-then-i-r

@@ -1,11 +1,7 @@
 -- The loop's invariant: the first q of the last r bytes are the remainder's.
-use mathlib.Core.Path.{◌≡◌, sym, ◌∙◌}
+use mathlib.Core.Path.{◌≡◌}
 use Prim.Native.Nat.{ℕ, ◌+◌, ◌-◌, ◌≤◌, ◌<◌}
-use borrow.Author.Count.{below_more}
 use Rattle.rules.specs.Bits.{row}
-use Rattle.laws.specs.Bytes.{byte_at}
-use borrow.Author.Rules.{rules}
-use native.Mathlib.Omega.{arith}
 use Rattle.outer.proofs.division.is_codeword.Given as goal
 
 abbrev pub invariant-loop-q : goal.invariant-loop-q

@@ -1,7 +1,7 @@
 -- The loop's invariant: the register holds the remainder of the first p bytes.
 use mathlib.Core.Path.{◌≡◌, ap₂, ◌∙◌}
 use mathlib.Core.List.{List}
-use Prim.Native.Nat.{ℕ, suc, ◌+◌, ◌-◌, ◌≤◌, ◌<◌}
+use Prim.Native.Nat.{ℕ, suc, ◌+◌, ◌-◌, ◌<◌}
 use native.Mathlib.Decide.{dec_lt}
 use native.Mathlib.Numerals.{add-one}
 use lib.ListN.{get_or-replicate}
@@ -10,7 +10,6 @@ use Rattle.rules.specs.Bits.{row}
 use Rattle.rules.specs.Field.{◌⊕◌, ◌⊗◌}
 use Rattle.rules.specs.Outer.{remainder, generator}
 use Rattle.outer.specs.Steps.{Starts, below, divided}
-use borrow.Author.Rules.{rules}
 use native.Mathlib.Omega.{arith}
 use Rattle.outer.proofs.division.remainder.Goals as goal
 

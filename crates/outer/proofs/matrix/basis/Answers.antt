@@ -2,8 +2,7 @@
 use mathlib.Core.Path.{◌≡◌, refl, sym, ap, ap₂, ◌∙◌}
 use mathlib.Core.Bool.{Bool, true, false}
 use mathlib.Core.List.{List}
-use mathlib.Core.Logic.{⊎_elim}
-use Prim.Native.Nat.{ℕ, ◌+◌, ◌-◌, ◌≤◌, ◌<◌}
+use Prim.Native.Nat.{ℕ, ◌+◌, ◌-◌, ◌<◌}
 use native.Mathlib.Numerals.{add-one}
 use lib.Dec.{eqb}
 use Rattle.rules.specs.Bits.{pick, row}
@@ -11,7 +10,6 @@ use Rattle.rules.specs.Field.{◌⊕◌, ◌⊗◌}
 use Rattle.laws.specs.Holds.{Holds, holds_as}
 use Rattle.outer.specs.Solve.{other, node, raised, basis}
 use Rattle.laws.specs.Filled.{holds-computed}
-use borrow.Author.Rules.{rules}
 use native.Mathlib.Omega.{arith}
 use Rattle.outer.proofs.matrix.basis.Goals.{else-other, then-other}
 use Rattle.outer.proofs.matrix.basis.Goals as goal

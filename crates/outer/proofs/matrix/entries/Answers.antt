@@ -1,11 +1,9 @@
 -- The loop's invariant: the first j entries are there.
 use mathlib.Core.Path.{◌≡◌, ap₂, ◌∙◌}
-use Prim.Native.Nat.{◌-◌, ◌≤◌, ◌<◌}
+use Prim.Native.Nat.{◌<◌}
 use Rattle.rules.specs.Field.{◌⊗◌}
-use Rattle.laws.specs.Holds.{Holds}
 use Rattle.outer.specs.Solve.{entry}
-use Rattle.laws.specs.Filled.{up_to, up_to-below, holds-next, holds-new}
-use borrow.Author.Rules.{rules}
+use Rattle.laws.specs.Filled.{up_to-below, holds-next, holds-new}
 use native.Mathlib.Omega.{arith}
 use Rattle.outer.proofs.matrix.entries.Goals as goal
 

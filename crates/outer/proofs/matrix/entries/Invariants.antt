@@ -1,12 +1,8 @@
 -- The loop's invariant: the first j entries are there.
-use mathlib.Core.Path.{◌≡◌, ap₂, ◌∙◌}
-use Prim.Native.Nat.{◌-◌, ◌≤◌, ◌<◌}
-use Rattle.rules.specs.Field.{◌⊗◌}
+use Prim.Native.Nat.{◌≤◌}
 use Rattle.laws.specs.Holds.{Holds}
 use Rattle.outer.specs.Solve.{entry}
-use Rattle.laws.specs.Filled.{up_to, up_to-below, holds-next, holds-new}
-use borrow.Author.Rules.{rules}
-use native.Mathlib.Omega.{arith}
+use Rattle.laws.specs.Filled.{up_to}
 use Rattle.outer.proofs.matrix.entries.Given as goal
 
 abbrev pub invariant-loop-j : goal.invariant-loop-j

@@ -1,15 +1,12 @@
 -- The loop's invariant: the first j coefficients stand, and the last one of b is at hand.
 use mathlib.Core.Path.{◌≡◌, refl, ap, ◌∙◌}
-use mathlib.Core.List.{List}
-use Prim.Native.Nat.{ℕ, ◌+◌, ◌-◌, ◌≤◌}
+use Prim.Native.Nat.{ℕ, ◌+◌, ◌-◌}
 use borrow.Author.Tests.{ne_eqb}
 use Rattle.rules.specs.Bits.{row}
 use Rattle.rules.specs.Field.{◌⊕◌, ◌⊗◌}
-use Rattle.laws.specs.Holds.{Holds}
 use Rattle.field.proofs.Laws.{⊕-comm}
 use Rattle.outer.specs.Solve.{raised}
-use Rattle.laws.specs.Filled.{up_to, holds-next, holds-whole, holds-new}
-use borrow.Author.Rules.{rules}
+use Rattle.laws.specs.Filled.{holds-next, holds-whole, holds-new}
 use native.Mathlib.Omega.{arith}
 use Rattle.outer.proofs.matrix.grown.Invariants.{times-linear}
 use Rattle.outer.proofs.matrix.grown.Goals as goal

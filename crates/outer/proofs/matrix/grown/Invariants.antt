@@ -1,16 +1,12 @@
 -- The loop's invariant: the first j coefficients stand, and the last one of b is at hand.
-use mathlib.Core.Path.{◌≡◌, refl, ap, ◌∙◌}
+use mathlib.Core.Path.{◌≡◌}
 use mathlib.Core.List.{List}
-use Prim.Native.Nat.{ℕ, ◌+◌, ◌-◌, ◌≤◌}
-use borrow.Author.Tests.{ne_eqb}
+use Prim.Native.Nat.{ℕ, ◌≤◌}
 use Rattle.rules.specs.Bits.{row}
 use Rattle.rules.specs.Field.{◌⊕◌, ◌⊗◌}
 use Rattle.laws.specs.Holds.{Holds}
-use Rattle.field.proofs.Laws.{⊕-comm}
 use Rattle.outer.specs.Solve.{raised}
-use Rattle.laws.specs.Filled.{up_to, holds-next, holds-whole, holds-new}
-use borrow.Author.Rules.{rules}
-use native.Mathlib.Omega.{arith}
+use Rattle.laws.specs.Filled.{up_to}
 use Rattle.outer.proofs.matrix.grown.Given as goal
 
 -- the coefficients of b times x plus a

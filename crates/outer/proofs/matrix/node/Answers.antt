@@ -1,7 +1,6 @@
 -- A node is a power of α.
 use mathlib.Core.Path.{sym, ◌∙◌}
 use Rattle.field.proofs.Laws.{alpha-is}
-use borrow.Author.Rules.{rules}
 use Rattle.outer.proofs.matrix.node.Goals as goal
 
 pub returns : goal.returns

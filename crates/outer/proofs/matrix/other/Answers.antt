@@ -1,6 +1,5 @@
 -- By the two tests.
 use borrow.Author.Tests.{eq-eqb, ne_eqb}
-use borrow.Author.Rules.{rules}
 use Rattle.outer.proofs.matrix.other.Goals as goal
 
 pub returns-then-n-p : goal.returns-then-n-p

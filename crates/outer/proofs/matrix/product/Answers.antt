@@ -1,11 +1,9 @@
 -- The loop's invariant: v is the product over those packets below n.
 use mathlib.Core.Path.{◌≡◌, refl, ap, ap₂, ◌∙◌}
-use mathlib.Core.Logic.{⊎_elim}
-use Prim.Native.Nat.{ℕ, ◌-◌, ◌≤◌}
+use Prim.Native.Nat.{ℕ}
 use native.Mathlib.Numerals.{add-one}
 use Rattle.rules.specs.Field.{◌⊕◌, ◌⊗◌}
-use Rattle.outer.specs.Solve.{other, node, product}
-use borrow.Author.Rules.{rules}
+use Rattle.outer.specs.Solve.{other, product}
 use native.Mathlib.Omega.{arith}
 use Rattle.outer.proofs.matrix.product.Goals.{else-other, then-other}
 use Rattle.outer.proofs.matrix.product.Goals as goal

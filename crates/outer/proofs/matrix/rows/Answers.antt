@@ -1,17 +1,15 @@
 -- The loop's invariant: i lost packets were passed, and each has its row.
 use mathlib.Core.Path.{◌≡◌, refl, sym, ◌∙◌, subst₂}
 use mathlib.Core.List.{List, []}
-use mathlib.Core.Logic.{⊎_elim}
-use Prim.Native.Nat.{◌^◌, ℕ, ◌+◌, ◌-◌, ◌≤◌, ◌<◌}
-use lib.ListN.{length, set, length-set, get_or}
+use Prim.Native.Nat.{◌^◌, ℕ, ◌+◌, ◌≤◌, ◌<◌}
+use lib.ListN.{set, length-set, get_or}
 use lib.Seq.{get_or-set_same, get_or-set_other}
 use borrow.Author.Count.{below_more}
 use borrow.Author.Tests.{eqb-true, eqb-false}
 use Rattle.rules.specs.Outer.{marked}
 use Rattle.outer.specs.Solve.{tally, entry}
-use Rattle.outer.specs.Steps.{Starts, Rows}
+use Rattle.outer.specs.Steps.{Starts}
 use Rattle.outer.proofs.Ones.{tally-next, tally-lt, place-lt}
-use borrow.Author.Rules.{rules}
 use native.Mathlib.Omega.{arith}
 use lib.Count.{ones}
 use Rattle.outer.proofs.matrix.rows.Invariants.{Placed}
@@ -73,10 +71,13 @@ loop-p-preserved c =
     let is = c.lost_at.ensures in
     let next = Placed a.r a.lost (l.p + 1) in (
       omega arith,
-      elim c.if-lost_at.branch [ then-lost_at w ↦ subst₂ next (sym w.m-is) (sym w.i-is)
-          (row_more a.r a.lost l.p l.invariant.1 _ (next_row a.lost l.p l.i (omega arith) (omega arith) (omega arith) (eqb-true _ _ (sym is ∙ w.if-lost_at.true)) l.invariant.1.place)
-          (eqb-true _ _ (sym is ∙ w.if-lost_at.true)) w.entries.ensures) | else-lost_at w ↦ subst₂ next (sym w.m-is) (sym w.i-is)
-          (row_same a.r a.lost l.p l.invariant.1 (eqb-false _ _ (sym is ∙ w.if-lost_at.false))) ],
+      elim c.if-lost_at.branch [
+        | then-lost_at w ↦ subst₂ next (sym w.m-is) (sym w.i-is)
+            (row_more a.r a.lost l.p l.invariant.1 _ (next_row a.lost l.p l.i (omega arith) (omega arith) (omega arith) (eqb-true _ _ (sym is ∙ w.if-lost_at.true)) l.invariant.1.place)
+            (eqb-true _ _ (sym is ∙ w.if-lost_at.true)) w.entries.ensures)
+        | else-lost_at w ↦ subst₂ next (sym w.m-is) (sym w.i-is)
+            (row_same a.r a.lost l.p l.invariant.1 (eqb-false _ _ (sym is ∙ w.if-lost_at.false)))
+      ],
     )
 
 pub returns : goal.returns

@@ -1,18 +1,11 @@
 -- The loop's invariant: i lost packets were passed, and each has its row.
-use mathlib.Core.Path.{◌≡◌, refl, sym, ◌∙◌, subst₂}
-use mathlib.Core.List.{List, []}
-use mathlib.Core.Logic.{⊎_elim}
-use Prim.Native.Nat.{ℕ, ◌+◌, ◌-◌, ◌≤◌, ◌<◌}
-use lib.ListN.{length, set, length-set, get_or}
-use lib.Seq.{get_or-set_same, get_or-set_other}
-use borrow.Author.Count.{below_more}
-use borrow.Author.Tests.{eqb-true, eqb-false}
+use mathlib.Core.Path.{◌≡◌}
+use mathlib.Core.List.{List}
+use Prim.Native.Nat.{ℕ, ◌≤◌}
+use lib.ListN.{length}
 use Rattle.rules.specs.Outer.{marked}
-use Rattle.outer.specs.Solve.{tally, entry}
-use Rattle.outer.specs.Steps.{Starts, Rows}
-use Rattle.outer.proofs.Ones.{tally-next, tally-lt, place-lt}
-use borrow.Author.Rules.{rules}
-use native.Mathlib.Omega.{arith}
+use Rattle.outer.specs.Solve.{tally}
+use Rattle.outer.specs.Steps.{Rows}
 use Rattle.outer.proofs.matrix.rows.Given as goal
 
 -- i lost packets are below p, and each has its row

@@ -3,7 +3,6 @@ use mathlib.Core.Path.{ap, ap₂, ◌∙◌}
 use Prim.Native.Nat.{ℕ, ◌-◌, ◌/◌}
 use Rattle.rules.specs.Field.{◌⊗◌, power, inverse}
 use Rattle.outer.specs.Solve.{denominator}
-use borrow.Author.Rules.{rules}
 use Rattle.outer.proofs.matrix.scale.Goals as goal
 
 pub returns : goal.returns

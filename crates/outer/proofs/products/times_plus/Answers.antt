@@ -2,7 +2,6 @@
 use mathlib.Core.Path.{◌∙◌, ap}
 use Prim.Native.Nat.{ℕ}
 use Rattle.rules.specs.Field.{◌⊕◌}
-use borrow.Author.Rules.{rules}
 use Rattle.outer.proofs.products.times_plus.Goals as goal
 
 pub returns : goal.returns

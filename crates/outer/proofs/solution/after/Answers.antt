@@ -1,13 +1,6 @@
 -- The loop's invariant: the first j values have taken the coefficient.
-use mathlib.Core.List.{List}
-use Prim.Native.Nat.{ℕ, ◌-◌, ◌≤◌}
-use Rattle.rules.specs.Bits.{row}
-use Rattle.rules.specs.Field.{◌⊕◌, ◌⊗◌}
-use Rattle.laws.specs.Holds.{Holds}
-use Rattle.laws.specs.Filled.{up_to, holds-next, holds-whole, holds-new}
-use borrow.Author.Rules.{rules}
+use Rattle.laws.specs.Filled.{holds-next, holds-whole, holds-new}
 use native.Mathlib.Omega.{arith}
-use Rattle.outer.proofs.solution.after.Invariants.{taken}
 use Rattle.outer.proofs.solution.after.Goals as goal
 
 pub loop-j-init : goal.loop-j-init

@@ -1,12 +1,10 @@
 -- The loop's invariant: the first j values have taken the coefficient.
 use mathlib.Core.List.{List}
-use Prim.Native.Nat.{ℕ, ◌-◌, ◌≤◌}
+use Prim.Native.Nat.{ℕ, ◌≤◌}
 use Rattle.rules.specs.Bits.{row}
 use Rattle.rules.specs.Field.{◌⊕◌, ◌⊗◌}
 use Rattle.laws.specs.Holds.{Holds}
-use Rattle.laws.specs.Filled.{up_to, holds-next, holds-whole, holds-new}
-use borrow.Author.Rules.{rules}
-use native.Mathlib.Omega.{arith}
+use Rattle.laws.specs.Filled.{up_to}
 use Rattle.outer.proofs.solution.after.Given as goal
 
 abbrev pub taken : List ℕ → List ℕ → ℕ → ℕ → ℕ

@@ -1,17 +1,14 @@
 -- The loop's invariant: the first j columns are worked out, and they are codewords.
 use mathlib.Core.Path.{◌≡◌, sym, ◌∙◌, subst}
 use mathlib.Core.List.{List}
-use Prim.Native.Nat.{ℕ, ◌+◌, ◌-◌, ◌≤◌, ◌<◌}
-use lib.ListN.{length}
+use Prim.Native.Nat.{ℕ, ◌+◌, ◌≤◌, ◌<◌}
 use borrow.Author.Count.{below_more}
-use borrow.Author.Tests.{not-true, not-false}
 use Rattle.rules.specs.Bits.{row}
 use Rattle.rules.specs.Outer.{column, Codeword}
 use Rattle.laws.specs.Holds.{Holds}
 use Rattle.outer.specs.Solve.{solved}
 use Rattle.outer.specs.Steps.{Put, Says, Solved}
 use Rattle.outer.proofs.Roots.{codeword-same}
-use borrow.Author.Rules.{rules}
 use native.Mathlib.Omega.{arith}
 use Rattle.outer.proofs.solution.all_solved.Goals as goal
 

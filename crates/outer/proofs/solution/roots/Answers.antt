@@ -1,13 +1,11 @@
 -- The loop's invariant: the first j powers are there, and the next one is at hand.
 use mathlib.Core.Path.{◌≡◌, sym, ap, ◌∙◌}
-use Prim.Native.Nat.{ℕ, ◌+◌, ◌-◌, ◌/◌, ◌≤◌}
+use Prim.Native.Nat.{ℕ, ◌+◌, ◌-◌, ◌/◌}
 use native.Mathlib.Numerals.{add-one}
 use Rattle.rules.specs.Field.{◌⊗◌, alpha}
 use Rattle.rules.specs.Outer.{root}
-use Rattle.laws.specs.Holds.{Holds}
-use Rattle.laws.specs.Filled.{up_to, holds-next, holds-whole, holds-new}
+use Rattle.laws.specs.Filled.{holds-next, holds-whole, holds-new}
 use Rattle.field.proofs.Laws.{alpha-is, alpha-lt, double-is}
-use borrow.Author.Rules.{rules}
 use native.Mathlib.Omega.{arith}
 use Rattle.outer.proofs.solution.roots.Goals as goal
 

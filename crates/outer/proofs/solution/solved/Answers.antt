@@ -2,8 +2,7 @@
 use mathlib.Core.Path.{◌≡◌, refl, sym, ap, ap₂, ◌∙◌, subst₂}
 use mathlib.Core.Bool.{true, false}
 use mathlib.Core.List.{List, []}
-use mathlib.Core.Logic.{⊎_elim}
-use Prim.Native.Nat.{ℕ, ◌+◌, ◌-◌, ◌≤◌, ◌<◌}
+use Prim.Native.Nat.{ℕ, ◌+◌, ◌≤◌, ◌<◌}
 use lib.ListN.{set, get_or}
 use borrow.Author.Tests.{eqb-true, eqb-false}
 use Rattle.rules.specs.Bits.{row}
@@ -12,10 +11,9 @@ use Rattle.rules.specs.Outer.{marked, column, value, root}
 use Rattle.laws.specs.Holds.{Holds}
 use Rattle.outer.specs.Solve.{sum, tally, lost_at, syndrome, kept, solved}
 use Rattle.outer.specs.Steps.{Starts, Rows}
-use Rattle.laws.specs.Filled.{up_to, holds-first, holds-next, holds-skip, holds-whole}
+use Rattle.laws.specs.Filled.{holds-first, holds-next, holds-skip, holds-whole}
 use Rattle.outer.proofs.Ones.{tally-next, place-lt}
 use Rattle.outer.proofs.Poly.{sum_same, value_same}
-use borrow.Author.Rules.{rules}
 use native.Mathlib.Omega.{arith}
 use Rattle.outer.proofs.solution.solved.Invariants.{Worked}
 use Rattle.outer.proofs.solution.solved.Goals.{Then-lost_at, else-lost_at, then-lost_at}
@@ -91,14 +89,17 @@ loop-p-preserved c =
     let lt : l.p < 16 = omega arith in
     let next = Worked a.r a.lost d (l.p + 1) in (
       omega arith,
-      elim c.if-lost_at.branch [ then-lost_at w ↦ let on = sym is ∙ w.if-lost_at.true in
-          subst₂ next (sym w.c-is) (sym w.i-is)
-          (byte_more a.r a.lost d l.p l.invariant.1 _ lt (eqb-true _ _ on)
-          (w.dot.ensures
-          ∙ lost-byte a.r a.lost d l.p l.i a.m c.values-s.result c.kept-c.result lt on l.invariant.1.place
-          h.3 c.kept-c.ensures (at-roots a.r a.x c.kept-c.result c.values-s.result h.0 h.2 c.values-s.ensures))) | else-lost_at w ↦ let off = sym is ∙ w.if-lost_at.false in
-          subst₂ next (sym w.c-is) (sym w.i-is)
-          (byte-same a.r a.lost d l.p l.invariant.1 (eqb-false _ _ off) (kept_byte_lem a.r a.lost d l.p off)) ],
+      elim c.if-lost_at.branch [
+        | then-lost_at w ↦ let on = sym is ∙ w.if-lost_at.true in
+            subst₂ next (sym w.c-is) (sym w.i-is)
+            (byte_more a.r a.lost d l.p l.invariant.1 _ lt (eqb-true _ _ on)
+            (w.dot.ensures
+            ∙ lost-byte a.r a.lost d l.p l.i a.m c.values-s.result c.kept-c.result lt on l.invariant.1.place
+            h.3 c.kept-c.ensures (at-roots a.r a.x c.kept-c.result c.values-s.result h.0 h.2 c.values-s.ensures)))
+        | else-lost_at w ↦ let off = sym is ∙ w.if-lost_at.false in
+            subst₂ next (sym w.c-is) (sym w.i-is)
+            (byte-same a.r a.lost d l.p l.invariant.1 (eqb-false _ _ off) (kept_byte_lem a.r a.lost d l.p off))
+      ],
     )
 
 pub returns : goal.returns

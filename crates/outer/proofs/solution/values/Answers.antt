@@ -1,14 +1,13 @@
 -- The loop's invariant: v has the values of the first p coefficients.
 use mathlib.Core.Path.{◌≡◌, ap}
 use mathlib.Core.List.{List}
-use Prim.Native.Nat.{ℕ, ◌+◌, ◌-◌, ◌≤◌}
+use Prim.Native.Nat.{ℕ, ◌+◌}
 use native.Mathlib.Numerals.{add-one}
 use lib.ListN.{length-replicate, get_or-replicate}
 use Rattle.rules.specs.Bits.{row}
 use Rattle.rules.specs.Field.{◌⊕◌, ◌⊗◌}
 use Rattle.rules.specs.Outer.{value}
 use Rattle.laws.specs.Holds.{Holds, holds_as}
-use borrow.Author.Rules.{rules}
 use native.Mathlib.Omega.{arith}
 use Rattle.outer.proofs.solution.values.Invariants.{values_of}
 use Rattle.outer.proofs.solution.values.Goals as goal

@@ -1,15 +1,9 @@
 -- The loop's invariant: v has the values of the first p coefficients.
-use mathlib.Core.Path.{◌≡◌, ap}
 use mathlib.Core.List.{List}
-use Prim.Native.Nat.{ℕ, ◌+◌, ◌-◌, ◌≤◌}
-use native.Mathlib.Numerals.{add-one}
-use lib.ListN.{length-replicate, get_or-replicate}
+use Prim.Native.Nat.{ℕ, ◌≤◌}
 use Rattle.rules.specs.Bits.{row}
-use Rattle.rules.specs.Field.{◌⊕◌, ◌⊗◌}
 use Rattle.rules.specs.Outer.{value}
-use Rattle.laws.specs.Holds.{Holds, holds_as}
-use borrow.Author.Rules.{rules}
-use native.Mathlib.Omega.{arith}
+use Rattle.laws.specs.Holds.{Holds}
 use Rattle.outer.proofs.solution.values.Given as goal
 
 abbrev pub values_of : List ℕ → List ℕ → ℕ → ℕ → ℕ

@@ -1,11 +1,9 @@
 -- The loop's invariant: the first i elements are those of `from`.
-use mathlib.Core.Path.{refl, sym, ◌∙◌}
-use Prim.Native.Nat.{◌-◌, ◌≤◌}
+use Prim.Native.Nat.{◌≤◌}
 use lib.ListN.{length}
 use Rattle.rules.specs.Bits.{row}
-use Rattle.laws.specs.Holds.{Holds, holds_self, holds_one}
-use Rattle.laws.specs.Filled.{up_to, holds-first, holds-next, holds-whole}
-use native.Mathlib.Omega.{arith}
+use Rattle.laws.specs.Holds.{Holds}
+use Rattle.laws.specs.Filled.{up_to}
 use Rattle.receiving.proofs.judging.copy.Given as goal
 
 abbrev pub invariant-loop-i : goal.invariant-loop-i

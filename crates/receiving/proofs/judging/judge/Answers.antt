@@ -1,6 +1,5 @@
 -- The bits are unscrambled, the packets judged, and the outer code has the last word.
 use mathlib.Core.Path.{refl}
-use borrow.Author.Rules.{rules}
 use Rattle.profile.proofs.InRange.{ranges}
 use Rattle.block.proofs.Scrambling.{scrambled-block}
 use Rattle.receiving.proofs.Judgement.{weighed-judged, scrambled-judged}

@@ -1,5 +1,4 @@
 -- The block's bits are read, and judged.
-use borrow.Author.Rules.{rules}
 use Rattle.receiving.proofs.Judgement.{read-judged}
 use Rattle.receiving.proofs.judging.judge_cells.Goals as goal
 

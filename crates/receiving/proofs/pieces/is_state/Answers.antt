@@ -1,6 +1,5 @@
 -- The tests in their order; each that fails tells that it is no state.
 use native.Mathlib.Omega.{arith}
-use borrow.Author.Rules.{rules}
 use Rattle.receiving.proofs.States.{passes, fails, come-small, rest-zero, small-zero}
 use Rattle.receiving.proofs.pieces.is_state.Goals as goal
 

@@ -1,11 +1,8 @@
 -- 9 and 25 by the bits of a part.
 use mathlib.Core.Path.{◌≡◌, sym, ap, ◌∙◌}
-use mathlib.Core.Logic.{◌⊎◌, inl, inr}
 use Prim.Native.Nat.{ℕ, ◌*◌}
 use native.Mathlib.Omega.{arith}
-use borrow.Author.Rules.{rules}
 use Rattle.rules.specs.Pieces.{choices}
-use Rattle.modes.proofs.Figures.{figures}
 use Rattle.receiving.proofs.pieces.most_byte.Goals as goal
 
 bytes_of : (w k : ℕ) → w ≡ k → choices w * choices w ≡ choices k * choices k

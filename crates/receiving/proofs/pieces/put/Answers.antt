@@ -1,9 +1,8 @@
 -- The piece's bytes go to their part of the state, and the two bytes in front count them.
 use mathlib.Core.Path.{refl}
-use Prim.Native.Nat.{◌+◌, ◌-◌}
+use Prim.Native.Nat.{◌+◌}
 use native.Mathlib.Omega.{arith}
 use lib.ListN.{length}
-use borrow.Author.Rules.{rules}
 use Rattle.laws.specs.Holds.{Holds}
 use Rattle.laws.specs.Parts.{part-long}
 use Rattle.rules.specs.Pieces.{byte_at}
