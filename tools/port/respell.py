@@ -80,6 +80,8 @@ def main():
             texts[path] = f.read()
     for path, old, new in GIVE_WAY:
         path = "./" + path
+        if path not in texts:
+            continue
         texts[path] = WORD.sub(lambda m: new if m[0] == old else m[0], texts[path])
     words = collections.Counter()
     fields, lemmas = set(), set()
