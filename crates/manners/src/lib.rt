@@ -19,6 +19,7 @@ pub mod twin;
 ghost use Rattle.std.specs.Prelude.{◌≤◌, length, IfOk};
 
 use std::env::{Env, FillError};
+use std::io;
 use std::io::{Error, ErrorKind, Print, Read};
 
 // Room for a path: the longest that the system takes has a byte less, for the zero that ends it there.
@@ -70,19 +71,8 @@ pub fn same(a: &[u8], b: &[u8]) -> bool {
     true
 }
 
-// Puts argument i at the start of a buffer, and answers its length; 0 where there is none, or where it is longer than the buffer, which then has
-// its first bytes.
-pub fn argument(rt: HostRuntime, i: usize, room: &mut [u8]) -> usize
-    ensures { result ≤ length room.new }
-{
-    match rt.arg(i, room) {
-        Ok(n) => n,
-        Err(_) => 0,
-    }
-}
-
 // Puts argument i at the start of a buffer, and answers its length, or why it can't.
-pub fn word(rt: HostRuntime, i: usize, room: &mut [u8]) -> Result<usize, Error>
+pub fn word(rt: HostRuntime, i: usize, room: &mut [u8]) -> io::Result<usize>
     ensures { IfOk result (λ n. n ≤ length room.new) }
 {
     match rt.arg(i, room) {
@@ -112,12 +102,13 @@ pub fn arg_count(rt: HostRuntime) -> usize {
 
 // Whether the first word is --help.
 fn is_help(rt: HostRuntime) -> bool {
-    let mut word = [0u8; 8];
-    let n = argument(rt, 1, &mut word);
-    same(&word[..n], b"--help")
+    let mut room = [0u8; 8];
+    let n = word(rt, 1, &mut room).unwrap_or(0);
+    same(&room[..n], b"--help")
 }
 
-// Whether argument i can be a word of a program's: it is not empty, and only --help begins with a dash.
+// Whether argument i can be a word of a program's: it is not empty, and only --help begins with a dash. Of a word that is longer than the buffer
+// the first byte is there all the same.
 fn is_word(rt: HostRuntime, i: usize) -> bool {
     let mut first = [0u8; 1];
     let is_empty = matches!(rt.arg(i, &mut first), Ok(0));
@@ -183,7 +174,7 @@ pub fn cannot(rt: HostRuntime, program: &[u8], what: &[u8], e: &Error) {
 }
 
 // A path as std takes it, which opens no name that is not UTF-8.
-pub fn named(path: &[u8]) -> Result<&str, Error> {
+pub fn named(path: &[u8]) -> io::Result<&str> {
     match str::from_utf8(path) {
         Ok(text) => Ok(text),
         Err(_) => Err(Error::new(ErrorKind::InvalidInput, "the name is not UTF-8")),

@@ -45,7 +45,7 @@ enum Command {
 // The one word after the program's name.
 fn asked(rt: HostRuntime) -> Command {
     let mut word = [0u8; 8];
-    let n = manners::argument(rt, 1, &mut word);
+    let n = manners::word(rt, 1, &mut word).unwrap_or(0);
     if manners::same(&word[..n], b"make") {
         return Command::Make;
     }
