@@ -1,5 +1,5 @@
 /* How the outside tests reach an x86-64 library from another kind of machine. far.c is linked into the tests in the library's place
-   and carries every call over a pipe; serve.c is linked with the library itself and runs under the kit's emulator.
+   and carries every call over a pipe; serve.c is linked with the library itself and runs in a process of its own, as under an emulator.
 
    A request is a struct request: the call, its number arguments, and for each list its length in bytes and whether it comes back;
    then come the lists' bytes. An answer is one 64-bit number and the bytes of the lists that come back. Both sides have the same
