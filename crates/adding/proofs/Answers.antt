@@ -11,7 +11,7 @@ use lib.Ieee.Bits.{is_true}
 use lib.ListN.{length}
 use borrow.Author.Tests.{ltb-false, le-ltb, eq-eqb}
 use Rattle.rules.specs.Bits.{pick, row}
-use Rattle.rules.specs.Answers.{is_number}
+use Rattle.rules.specs.Answers.{is_adding_number}
 use Rattle.rules.specs.Totals.{is_block, counts, how_often, agrees, plus, fits, AddRule, Summed}
 use Rattle.rules.specs.Demands.{InAgreement}
 use Rattle.rules.specs.declared.Receipt.{Receipt}
@@ -34,10 +34,10 @@ module _ (before : List ℕ) (a : Receipt) (after : List ℕ) (n : ℕ) (r : Add
   went : Way before a n
   went = subst (Way before a) (sym r.number) (way before a)
 
-  pub told : T (is_number n) × (¬ (n ≡ 0) → after ≡ before)
+  pub told : T (is_adding_number n) × (¬ (n ≡ 0) → after ≡ before)
   told = (go went, r.kept)
     where
-      go : {m : ℕ} → Way before a m → T (is_number m)
+      go : {m : ℕ} → Way before a m → T (is_adding_number m)
       go (none q) = tt
       go (wrong b g) = tt
       go (full b long g f) = tt

@@ -23,7 +23,6 @@ use Rattle.rules.specs.declared.Receipt.{Receipt}
 use Rattle.profile.proofs.RoundTrip.{read_number, write-told}
 use Rattle.profile.proofs.AtFault.{only-told, fault-told}
 use Rattle.receiving.proofs.States.{feeding-number, asking-number}
-use Rattle.adding.proofs.Answers.{told as told-adding}
 use Rattle.card.proofs.Names.{lengths-each, symbol-each, symbol-answer}
 
 early-told : (P : Profile) (bytes firsts seconds cells : ℕ)
@@ -104,7 +103,6 @@ d1 =
         rw r.number (comparing-number (length G.firsts_a) (length G.seconds_a) (length G.firsts_b) (length G.seconds_b)),
         λ n. (r.refused n).1,
       );
-      add = told-adding;
       read = read_number;
       write = write-told;
     }

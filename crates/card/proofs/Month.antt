@@ -21,7 +21,7 @@ use Rattle.rules.specs.declared.Receipt.{Receipt}
 use Rattle.laws.specs.Every.{every_of}
 use Rattle.adding.proofs.Sums.{any_order, one_total}
 use Rattle.adding.proofs.Positions.{counted}
-use Rattle.adding.proofs.Answers.{no_block, says_23, says_19, never-23, one_adding}
+use Rattle.adding.proofs.Answers.{told, no_block, says_23, says_19, never-23, one_adding}
 use Rattle.card.proofs.D1.{d1}
 
 -- a refusal is silent, and else the mask is that of the reasons
@@ -53,6 +53,7 @@ asked-agrees P marks state before after a r =
 pub whole_numbers : WholeNumbers
 whole_numbers =
     record {
+      told = told;
       counted = counted;
       any_order = any_order;
       one_total = one_total;

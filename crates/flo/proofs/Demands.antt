@@ -96,7 +96,6 @@ calls-told =
       parity = λ k before after n r. (rw r.answer (parity-number (not (is_k k)) (not (eqb (length before) 1952))), r.kept);
       compare = λ fa sa fb sb before after count n r.
           ((d1.compare 0 (grids fa sa fb sb) before after _ r).0, λ ne. let q = r.refused ne in (q.1, q.0));
-      add = λ before number lost reasons after n. d1.add before (receipt_of (only number) lost reasons) after n;
     }
 
 pub calls-one : CallsOne
@@ -132,5 +131,4 @@ calls-one =
       compare = λ fa sa fb sb before after after' count count' n m x y.
           let e = side_by_side.one_comparison 0 (grids fa sa fb sb) before after after' _ _ x y in
           (ap (λ (c : Comparison). c.number) e.0, ap (λ (c : Comparison). c.count) e.0, e.1);
-      add = λ before number lost reasons. whole_numbers.one_adding before (receipt_of (only number) lost reasons);
     }

@@ -27,7 +27,7 @@ use Rattle.card.proofs.Month.{received-agrees, asked-agrees, whole_numbers}
 use Rattle.adding.proofs.Answers.{never-23}
 use Rattle.adding.proofs.Placeless.{with-place}
 use Rattle.flo.specs.Calls.{AfterReading, refusal, receipt_of, FloFeed, FloAdds}
-use Rattle.flo.specs.Demands.{said, NamesRead, CallsRight, CallsBring}
+use Rattle.flo.specs.Demands.{said, NamesRead, CallsRight, CallsBring, CallsAdd}
 use Rattle.flo.proofs.Reading.{told}
 use Rattle.flo.proofs.Demands.{by-reading}
 
@@ -197,15 +197,6 @@ calls-right =
           names-read profile a bytes r (λ q. q.0) (d2.feed_names (said profile) f s before after a);
       ask_names = λ profile marks state before after lost reasons a bytes r.
           names-read profile a bytes r (λ q. q.0) (d2.ask_names (said profile) marks state before after (receipt_of a lost reasons));
-      adds_counted = λ rs t s. whole_numbers.counted rs t (added rs t s);
-      adds_received = λ profile marks f s before after lost reasons a t t' n r long q.
-          never-23 t _ t' n q long
-          (by-reading profile (T (agrees (receipt_of (only a.number) lost reasons))) r (λ x. silent-agrees a.number lost reasons x.1 x.2)
-          (received-agrees (said profile) marks f s before after (receipt_of a lost reasons)));
-      adds_asked = λ profile marks state before after lost reasons a t t' n r long q.
-          never-23 t _ t' n q long
-          (by-reading profile (T (agrees (receipt_of (only a.number) lost reasons))) r (λ x. silent-agrees a.number lost reasons x.1 x.2)
-          (asked-agrees (said profile) marks state before after (receipt_of a lost reasons)));
     }
 
 pub calls-bring : CallsBring
@@ -216,4 +207,20 @@ calls-bring =
       sent_and_asked = λ profile d marks f s state before after lost reasons a long numbers each h r t.
           d3.sent_and_asked _ d marks f s state before after _ long numbers each (fed-said profile h)
           (passed profile r (λ q. not-read profile a t q.0)).0 t;
+    }
+
+pub calls-add : CallsAdd
+calls-add =
+    record {
+      told = λ before number lost reasons after n. whole_numbers.told before (receipt_of (only number) lost reasons) after n;
+      one_adding = λ before number lost reasons. whole_numbers.one_adding before (receipt_of (only number) lost reasons);
+      adds_counted = λ rs t s. whole_numbers.counted rs t (added rs t s);
+      adds_received = λ profile marks f s before after lost reasons a t t' n r long q.
+          never-23 t _ t' n q long
+          (by-reading profile (T (agrees (receipt_of (only a.number) lost reasons))) r (λ x. silent-agrees a.number lost reasons x.1 x.2)
+          (received-agrees (said profile) marks f s before after (receipt_of a lost reasons)));
+      adds_asked = λ profile marks state before after lost reasons a t t' n r long q.
+          never-23 t _ t' n q long
+          (by-reading profile (T (agrees (receipt_of (only a.number) lost reasons))) r (λ x. silent-agrees a.number lost reasons x.1 x.2)
+          (asked-agrees (said profile) marks state before after (receipt_of a lost reasons)));
     }

@@ -7,7 +7,7 @@ use Rattle.rules.specs.Bits.{row}
 use Rattle.rules.specs.Outer.{marked}
 use Rattle.rules.specs.Modes.{symbols}
 use Rattle.rules.specs.Profile.{Shape, fields, blank, only, reading, headed, spelt, largest}
-use Rattle.rules.specs.Answers.{is_number, is_answer, names_fault, is_reason, has_read}
+use Rattle.rules.specs.Answers.{is_number, is_adding_number, is_answer, names_fault, is_reason, has_read}
 use Rattle.rules.specs.Block.{Cells}
 use Rattle.rules.specs.Pieces.{Fed, LeftBy}
 use Rattle.rules.specs.Totals.{Summed}
@@ -45,9 +45,6 @@ pub record CallsTold : Type 0 where
   pub compare : (fa sa fb sb before after : List ℕ) (count n : ℕ)
       → FloCompare fa sa fb sb before after count n
       → T (is_number n) × (¬ (n ≡ 0) → (after ≡ before) × (count ≡ 0))
-  pub add : (before : List ℕ) (number lost : ℕ) (reasons after : List ℕ) (n : ℕ)
-      → FloAdd before number lost reasons after n
-      → T (is_number n) × (¬ (n ≡ 0) → after ≡ before)
 
 -- ---- 2. No call can answer in two ways
 
@@ -88,10 +85,6 @@ pub record CallsOne : Type 0 where
       → FloCompare fa sa fb sb before after count n
       → FloCompare fa sa fb sb before after' count' m
       → (n ≡ m) × (count ≡ count') × (after ≡ after')
-  pub add : (before : List ℕ) (number lost : ℕ) (reasons after after' : List ℕ) (n m : ℕ)
-      → FloAdd before number lost reasons after n
-      → FloAdd before number lost reasons after' m
-      → (n ≡ m) × (after ≡ after')
 
 -- the profile that some bytes say
 abbrev pub said : List ℕ → Profile
@@ -215,19 +208,6 @@ pub record CallsRight : Type 0 where
       → ((i : ℕ) → row profile i < 256)
       → FloAsk profile marks state before after lost reasons a
       → NamesRead profile a
-  -- for every sequence of receipts that was added from the start, each total is the sequence's own count
-  pub adds_counted : (rs : List Receipt) (t : List ℕ) → Summed FloAdds rs t → (length t ≡ 128) × ((p : ℕ) → p < 16 → OfPosition rs t p)
-  -- what flo_receive and flo_ask answer is never refused by flo_add with 23
-  pub adds_received : (profile : List ℕ) (marks : ℕ) (f s : List Float) (before after : List ℕ) (lost : ℕ) (reasons : List ℕ) (a : Answer) (t t' : List ℕ) (n : ℕ)
-      → FloReceive profile marks f s before after lost reasons a
-      → length t ≡ 128
-      → FloAdd t a.number lost reasons t' n
-      → ¬ (n ≡ 23)
-  pub adds_asked : (profile : List ℕ) (marks : ℕ) (state before after : List ℕ) (lost : ℕ) (reasons : List ℕ) (a : Answer) (t t' : List ℕ) (n : ℕ)
-      → FloAsk profile marks state before after lost reasons a
-      → length t ≡ 128
-      → FloAdd t a.number lost reasons t' n
-      → ¬ (n ≡ 23)
 
 -- ---- 3. The lost set exactly; at most r lost come back, more are refused
 
@@ -248,3 +228,28 @@ pub record CallsBring : Type 0 where
       → FloAsk profile marks state before after lost reasons a
       → T (has_read a.number)
       → BringsBack (said profile) marks d f s before after lost a.number
+
+-- ---- Req 09. The three sentences of flo_add: the number is in the table, and a refusal leaves the totals as they were; it can't answer in two ways; each
+-- total is the sequence's own count, and what our own receiver answers is never refused with 23
+
+pub record CallsAdd : Type 0 where
+  pub told : (before : List ℕ) (number lost : ℕ) (reasons after : List ℕ) (n : ℕ)
+      → FloAdd before number lost reasons after n
+      → T (is_adding_number n) × (¬ (n ≡ 0) → after ≡ before)
+  pub one_adding : (before : List ℕ) (number lost : ℕ) (reasons after after' : List ℕ) (n m : ℕ)
+      → FloAdd before number lost reasons after n
+      → FloAdd before number lost reasons after' m
+      → (n ≡ m) × (after ≡ after')
+  -- for every sequence of receipts that was added from the start, each total is the sequence's own count
+  pub adds_counted : (rs : List Receipt) (t : List ℕ) → Summed FloAdds rs t → (length t ≡ 128) × ((p : ℕ) → p < 16 → OfPosition rs t p)
+  -- what flo_receive and flo_ask answer is never refused by flo_add with 23
+  pub adds_received : (profile : List ℕ) (marks : ℕ) (f s : List Float) (before after : List ℕ) (lost : ℕ) (reasons : List ℕ) (a : Answer) (t t' : List ℕ) (n : ℕ)
+      → FloReceive profile marks f s before after lost reasons a
+      → length t ≡ 128
+      → FloAdd t a.number lost reasons t' n
+      → ¬ (n ≡ 23)
+  pub adds_asked : (profile : List ℕ) (marks : ℕ) (state before after : List ℕ) (lost : ℕ) (reasons : List ℕ) (a : Answer) (t t' : List ℕ) (n : ℕ)
+      → FloAsk profile marks state before after lost reasons a
+      → length t ≡ 128
+      → FloAdd t a.number lost reasons t' n
+      → ¬ (n ≡ 23)

@@ -1,5 +1,5 @@
 // The words for twins: two slots of one symbol with the same seed and the same mask. A profile's bytes and its text have the same words.
-ghost use Rattle.std.specs.Prelude.{◌<◌};
+ghost use Rattle.std.specs.Prelude.{◌<◌, ◌≤◌, length};
 
 use super::{field, put};
 
@@ -53,20 +53,13 @@ pub fn words(out: &mut [u8], at: usize, masks: [u32; 8], seeds: [u32; 48], t: us
     shared(out, at, u, t, seed(seeds, t), mask(masks, t))
 }
 
-// The bytes from a place on; none where they end before it.
-fn from(bytes: &[u8], place: usize) -> &[u8] {
-    if bytes.len() < place {
-        &bytes[0..0]
-    } else {
-        &bytes[place..]
-    }
-}
-
-// The numbers of four bytes each that a profile's bytes begin with; zeros after the bytes' end.
-fn gather(bytes: &[u8], list: &mut [u32]) {
+// The numbers of four bytes each from a place of a profile on; zeros after the bytes' end.
+fn gather(bytes: &[u8], list: &mut [u32], first: usize)
+    requires { (first ≤ 53) × (length list.old ≤ 48) }
+{
     let mut i = 0;
     while i < list.len() {
-        list[i] = field::four_at(bytes, 4 * i);
+        list[i] = field::four_at(bytes, first + 4 * i);
         i += 1;
     }
 }
@@ -74,7 +67,7 @@ fn gather(bytes: &[u8], list: &mut [u32]) {
 // The masks in a profile's bytes.
 pub(crate) fn masks_of(bytes: &[u8]) -> [u32; 8] {
     let mut masks = [0u32; 8];
-    gather(from(bytes, 3), &mut masks);
+    gather(bytes, &mut masks, 3);
     masks
 }
 
@@ -82,6 +75,6 @@ pub(crate) fn masks_of(bytes: &[u8]) -> [u32; 8] {
 // ones only.
 pub(crate) fn seeds_of(bytes: &[u8]) -> [u32; 48] {
     let mut seeds = [0u32; 48];
-    gather(from(bytes, 53), &mut seeds);
+    gather(bytes, &mut seeds, 53);
     seeds
 }

@@ -146,7 +146,7 @@ only-or n m = go (eqb n 0)
     go false = refl
 
 named-number : (n : ℕ) → T (names_fault n) → T (is_number n)
-named-number n t = go (leb n 3 || leb 5 n && leb n 10 || leb 16 n && leb n 19 || leb 22 n && leb n 23) (names_fault n) t
+named-number n t = go (leb n 3 || leb 5 n && leb n 10 || leb 16 n && leb n 18 || eqb n 22) (names_fault n) t
   where
     go : (b c : Bool) → T c → T (b || c)
     go true c t = tt

@@ -13,7 +13,7 @@ use Rattle.rules.specs.Kept.{next_kept, counter, count}
 use Rattle.rules.specs.Interleaver.{table_d}
 use Rattle.rules.specs.Turbo.{state, ending, coded_bit, coded_length}
 use Rattle.rules.specs.Cells.{place_of, point_at}
-use Rattle.rules.specs.Answers.{is_number, names_field, is_answer, is_reason, has_read}
+use Rattle.rules.specs.Answers.{is_number, is_adding_number, names_field, is_answer, is_reason, has_read}
 use Rattle.rules.specs.Profile.{Tested, Field, fields, blank}
 use Rattle.rules.specs.Modes.{mode, slot_bits, packet_bits, slots, symbols}
 use Rattle.rules.specs.Points.{twice, sign_of, near_end, far_end, size_of, decide}
@@ -82,8 +82,12 @@ unfolding coded_bit state ending
 two-thirds-sent = refl
 
 -- The table of what the desk says back has these numbers and no other below a byte's 256, receiving reads the cells at these, and gives these reasons
-pub numbers-listed : passing 256 0 is_number ≡ 0 ∷ 1 ∷ 2 ∷ 3 ∷ 5 ∷ 6 ∷ 7 ∷ 8 ∷ 9 ∷ 10 ∷ 16 ∷ 17 ∷ 18 ∷ 19 ∷ 22 ∷ 23 ∷ 40 ∷ 41 ∷ 42 ∷ 43 ∷ 44 ∷ 45 ∷ 46 ∷ []
+pub numbers-listed : passing 256 0 is_number ≡ 0 ∷ 1 ∷ 2 ∷ 3 ∷ 5 ∷ 6 ∷ 7 ∷ 8 ∷ 9 ∷ 10 ∷ 16 ∷ 17 ∷ 18 ∷ 22 ∷ 40 ∷ 41 ∷ 42 ∷ 43 ∷ 44 ∷ 45 ∷ 46 ∷ []
 numbers-listed = refl
+
+-- and with those of Req 09
+pub adding-numbers-listed : passing 256 0 is_adding_number ≡ 0 ∷ 1 ∷ 2 ∷ 3 ∷ 5 ∷ 6 ∷ 7 ∷ 8 ∷ 9 ∷ 10 ∷ 16 ∷ 17 ∷ 18 ∷ 19 ∷ 22 ∷ 23 ∷ 40 ∷ 41 ∷ 42 ∷ 43 ∷ 44 ∷ 45 ∷ 46 ∷ []
+adding-numbers-listed = refl
 
 -- of these, the ones that name a field, and the ones that have a place
 pub named-listed : passing 256 0 names_field ≡ 40 ∷ 41 ∷ 42 ∷ 43 ∷ 44 ∷ 45 ∷ []

@@ -15,9 +15,13 @@ abbrev pub names_fault : ℕ → Bool
 names_fault n = names_field n || eqb n 46
 
 -- 0 done, 1 to 3 and 5 to 10 the refusals; and those of document 02: 16 too many cells, 17 the last cell not yet seen, 18 the four lists not all of one
--- length, 19 a total would pass 2^64 - 1, 22 no such state, 23 mask and reasons disagree, 40 to 45, which stand where 4 stood, and 46, which comes after them
+-- length, 22 no such state, 40 to 45, which stand where 4 stood, and 46, which comes after them
 abbrev pub is_number : ℕ → Bool
-is_number n = leb n 3 || leb 5 n && leb n 10 || leb 16 n && leb n 19 || leb 22 n && leb n 23 || names_fault n
+is_number n = leb n 3 || leb 5 n && leb n 10 || leb 16 n && leb n 18 || eqb n 22 || names_fault n
+
+-- the same table with the two numbers of Req 09: 19 a total would pass 2^64 - 1, 23 mask and reasons disagree
+abbrev pub is_adding_number : ℕ → Bool
+is_adding_number n = is_number n || eqb n 19 || eqb n 23
 
 -- a number of the table, and a place only where it names a fault of the profile
 abbrev pub is_answer : ℕ → ℕ → Bool

@@ -11,7 +11,7 @@ use Rattle.rules.specs.Modes.{part_bits, slot_bits, packet_bits, slots, symbols}
 use Rattle.rules.specs.Slots.{coded, symbol_of, slot_number}
 use Rattle.rules.specs.Points.{zero_part, part, doubtful, near_end, far_end, decide, decide_without}
 use Rattle.rules.specs.Profile.{fields, only, fault, in_range, faultless, Shape, Whole, reading, refused, read_as, headed, spelt, written, writing, blank, largest}
-use Rattle.rules.specs.Answers.{is_number, is_answer, names_fault, is_reason, has_read}
+use Rattle.rules.specs.Answers.{is_number, is_adding_number, is_answer, names_fault, is_reason, has_read}
 use Rattle.rules.specs.Block.{scrambler, sent_bit, heard, Cells, SendRule, SendSymbolRule}
 use Rattle.rules.specs.Block.{Accepted, ReceiveRule}
 use Rattle.rules.specs.Pieces.{FeedRule, AskRule, Fed, LeftBy}
@@ -43,7 +43,6 @@ pub record D1 : Type 0 where
   pub compare : (from : ℕ) (G : Grids) (before after : List ℕ) (a : Comparison)
       → CompareRule from G before after a
       → T (is_number a.number) × (¬ (a.number ≡ 0) → after ≡ before)
-  pub add : (before : List ℕ) (a : Receipt) (after : List ℕ) (n : ℕ) → AddRule before a after n → T (is_number n) × (¬ (n ≡ 0) → after ≡ before)
   pub read : (s : List ℕ)
       → T (is_answer (reading s).number (reading s).place) × (¬ ((reading s).number ≡ 0) → (reading s).profile ≡ blank)
   pub write : (P : Profile)
@@ -398,6 +397,8 @@ abbrev pub InAgreement : Receipt → Type 0
 InAgreement a = (p : ℕ) → p < 16 → T (is_reason (row a.reasons p)) × ((marked a.lost p ≡ 1) ↔ ¬ (row a.reasons p ≡ 0))
 
 pub record WholeNumbers : Type 0 where
+  -- the first sentence of adding: the number is in the table, and a refusal leaves the totals as they were
+  pub told : (before : List ℕ) (a : Receipt) (after : List ℕ) (n : ℕ) → AddRule before a after n → T (is_adding_number n) × (¬ (n ≡ 0) → after ≡ before)
   -- for every sequence of receipts that was added from the start
   pub counted : (rs : List Receipt) (t : List ℕ) → Summed AddRule rs t → (length t ≡ 128) × ((p : ℕ) → p < 16 → OfPosition rs t p)
   -- in another order none of them is refused, and the totals are the same

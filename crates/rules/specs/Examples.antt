@@ -364,8 +364,13 @@ examples =
           ++ ((reading (written (twinned 4 12 0 1) ++ (7 ∷ 0 ∷ []))).number ∷ (reading (written (twinned 4 12 0 1) ++ (7 ∷ 0 ∷ 0 ∷ []))).number ∷ []);
       said = 45 ∷ 104 ∷ 44 ∷ 101 ∷ 1 ∷ 2 ∷ [];
     }
+    ∷ []
+
+-- and what Req 09 names, the totals of receipts
+abbrev pub totals_examples : List Example
+totals_examples =
     -- Req 09 the totals of five receipts, counted over the sequence and added one by one; each of them is taken
-    ∷ record { given = totals_of (all_came ∷ restored_two ∷ three_marked ∷ none_agrees ∷ no_block ∷ []); said = of_five }
+    record { given = totals_of (all_came ∷ restored_two ∷ three_marked ∷ none_agrees ∷ no_block ∷ []); said = of_five }
     ∷ record { given = plus (plus (plus (plus (plus no_totals no_block) three_marked) all_came) none_agrees) restored_two; said = of_five }
     ∷ record {
       given = adding_number no_totals all_came ∷ adding_number no_totals restored_two ∷ adding_number no_totals three_marked ∷ adding_number no_totals none_agrees ∷ [];
