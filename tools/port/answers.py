@@ -1,16 +1,27 @@
 #!/usr/bin/env python3
-"""conv.py CRATE_DIR NAMES_JSON [--keep-trivial] [fn ...]: turns proofs/**/Proof.antt into Invariants.antt and Answers.antt."""
+"""Turns the Proof.antt files of a crate, as the older Rattle had them, into Invariants.antt and Answers.antt, and removes them.
+
+usage: answers.py CRATE NAMES [--keep-trivial] [FUNCTION ..]
+
+CRATE is the crate's folder, NAMES the file names.json that `rt check --generated DIR --old-names` writes in it, FUNCTION a folder below proofs/.
+A goal and a step get today's name, a chain of `.before` becomes the step that it led to, a loop's parameters become fields of `l`, and a place that
+was handed to a lemma is named by `goal.at`. An answer that is one call of a tactic is left out unless --keep-trivial says otherwise: the check finds
+it. What a line below a function's name says is to be looked at by hand. A file that walks the code by hand (no tie.close) is left alone. Commit first.
+"""
 import json, os, re, sys
 W = r'[^\s(){}.;,@"\[\]|]+'
 CHAIN = re.compile(r'(?<![^\s(){};,\[\]|])(' + W + r')((?:\.' + W + r')*)')
 TRIVIAL = re.compile(r'^(omega arith|search rules|refl|tt)$')
 
 def norm(s):
-    return s.replace('-', '_').lower()
+    s = s.replace('-', '_').lower()
+    return {'spot_of_lem': 'spot_of', 'type_size': 'size_of'}.get(s, s)
 
 def nneed(s):
     s = norm(s)
     if s.startswith('overflow_'): s = s[9:]
+    if s.startswith('slice_bounds_'): s = s[13:]
+    elif s.startswith('part_') and s.endswith(('_start', '_end')): s = s[5:]
     return s
 
 class Fn:
@@ -155,8 +166,8 @@ class Conv:
                 continue
             f = restf[0]; p = self.fn.places[pl]
             tail = restf[1:]
-            if p['parent'] is None and f in ('args', 'requires', 'pre', 'ranges', 'initial', 'well_formed'):
-                nf = 'requires' if f == 'pre' else f
+            if p['parent'] is None and f in ('args', 'requires', 'pre', 'ranges', 'initial', 'well_formed', 'well-formed'):
+                nf = 'requires' if f == 'pre' else f.replace('-', '_')
                 if f == 'args' and tail: tail = [self.arg(tail[0])] + tail[1:]
             elif norm(f) == norm(p['old']):
                 nf = p['new']
@@ -354,7 +365,7 @@ def main():
         def names_of(full):
             ns = set()
             for ln in full.split('\n'):
-                mm = re.match(r'\s*(?:(?:pub|abbrev|unfoldable|record|data) )*(' + W + r')((?: \{[^{}\n]*\})*(?: \([^()\n]*\))*) :', ln)
+                mm = re.match(r'\s*(?:(?:pub|abbrev|unfoldable|record|data) )*(' + W + r')((?: \{[^{}\n]*\})*(?: \((?:[^()\n]|\([^()\n]*\))*\))*) :', ln)
                 if mm: ns.add(mm[1])
             return ns
         defs = [(names_of(f), c, f) for c, f in hout]
@@ -404,7 +415,6 @@ def main():
             open(os.path.join(d, 'Answers.antt'), 'w').write(t)
         elif rest and any(defs[k][2].strip() for k in rest):
             warn.append(f'{len(rest)} helpers were dropped with the answers')
-        os.makedirs('/tmp/oldproofs/' + cname + '/' + rel, exist_ok=True)
-        os.replace(path, '/tmp/oldproofs/' + cname + '/' + rel + '/Proof.antt')
+        os.remove(path)
         print(f'{rel}: {len(invs)} invariants, {len(kept)} of {len(answers)} answers' + (', ' if warn else ''), *warn, sep='\n    ' if warn else '')
 main()
