@@ -40,7 +40,7 @@ def blocks(text):
     out = []; pend = []; cur = None
     for line in text.split('\n'):
         if line.startswith('--'):
-            pend.append(line); cur_end = True
+            pend.append(line)
             if cur is not None: out.append(cur); cur = None
             continue
         if line.strip() == '':
@@ -222,8 +222,6 @@ def invariant(fn, text_lines, loop):
     if len(params) != len(order):
         return None, f'{len(params)} params, {len(order)} live: {params} {order}'
     sub = {p: 'l.' + o for p, o in zip(params, order)}
-    if 'l' in [x for x in re.findall(W, body)] and 'l' not in sub:
-        pass
     def rep(mm):
         n = mm[1]
         if n in sub: return sub[n] + mm[2]
@@ -395,12 +393,9 @@ def main():
         kept = [a for a in answers if keep or not a['triv']]
         rest = [k for k in range(len(defs)) if k not in inv_h]
         if kept:
-            t = ''
-            if not invs: t = '\n'.join(head) + ('\n' if head else '')
-            else: t = f'-- Answers for {rel}.\n' if False else ('\n'.join(head) + ('\n' if head else ''))
+            t = '\n'.join(head) + ('\n' if head else '')
             t += '\n'.join(us) + ('\n' if us else '')
             if inv_h:
-                nm = sorted(n for k in inv_h for n in defs[k][0] if not re.match(r'\s', n))
                 top = []
                 for k in sorted(inv_h):
                     mm = re.match(r'(?:(?:pub|abbrev|unfoldable|record|data) )*(' + W + ')', defs[k][2]); top.append(mm[1])

@@ -1,5 +1,5 @@
 -- What the answer 0 tells, and what gives it: the profile is faultless, and all lengths are right.
-use mathlib.Core.Path.{◌≡◌, refl}
+use mathlib.Core.Path.{◌≡◌, refl, ◌∙◌, ap}
 use mathlib.Core.Bool.{Bool, true, false, not, ◌&&◌}
 use mathlib.Core.Logic.{◌↔◌}
 use Prim.Native.Nat.{ℕ, ◌*◌}
@@ -9,6 +9,8 @@ use lib.Ieee.Fits.{eq→eqb}
 use Rattle.rules.specs.Bits.{pick}
 use Rattle.rules.specs.Profile.{faultless}
 use Rattle.rules.specs.Block.{early}
+use Rattle.rules.specs.Modes.{symbols}
+use Rattle.rules.specs.declared.Answer.{Answer}
 use Rattle.rules.specs.declared.Profile.{Profile}
 use Rattle.profile.proofs.AtFault.{or-number}
 
@@ -48,3 +50,8 @@ early-right P bytes firsts seconds cells = (
     go false c d q r s = absurd q
     go true false d q r s = absurd r
     go true true false q r s = absurd s
+
+-- the answer for a grid, by the number of symbols that the code works with
+pub early-symbols : (P : Profile) (bytes firsts seconds : ℕ) {n : ℕ} {a : Answer} → n ≡ symbols P.mode → a ≡ early P bytes firsts seconds (4096 * n)
+    → a ≡ early P bytes firsts seconds (4096 * symbols P.mode)
+early-symbols P bytes firsts seconds e is = is ∙ ap (λ (n : ℕ). early P bytes firsts seconds (4096 * n)) e

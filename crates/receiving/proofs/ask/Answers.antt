@@ -8,39 +8,34 @@ use Rattle.rules.specs.Bits.{row}
 use Rattle.rules.specs.Modes.{symbols}
 use Rattle.rules.specs.Profile.{faultless}
 use Rattle.rules.specs.Block.{understood, in_block}
-use Rattle.rules.specs.Pieces.{is_state, seen, cell_in, kept_bit, asking}
+use Rattle.rules.specs.Pieces.{is_state, state_bytes, seen, cell_in, kept_bit, asking}
 use Rattle.rules.specs.declared.Answer.{Answer}
 use Rattle.laws.specs.Parts.{part, part-long, part_at}
 use Rattle.receiving.proofs.Numbers.{answered-refused, answered-judged}
 use Rattle.receiving.proofs.States.{is_state_lem, asking-0}
 use Rattle.receiving.proofs.Judgement.{cells-judged}
-use Rattle.receiving.proofs.ask.Goals.{After-symbol_count, Else-a-ne0}
+use Rattle.receiving.proofs.ask.Goals.{After-symbol_count}
 use Rattle.receiving.proofs.ask.Goals as goal
 
--- the first answer is 0
-zero : (c : Else-a-ne0) → let a = c.args in (asking a.p a.state.now (length a.«data».now)).number ≡ 0
-zero c = sym (ap (λ (x : Answer). x.number) c.asking-a.ensures) ∙ c.if-a-ne0.false
+module _ (c : After-symbol_count) where
+  -- the first answer is 0
+  zero : let a = c.args in (asking a.p a.state.now (length a.«data».now)).number ≡ 0
+  zero = sym (ap (λ (x : Answer). x.number) c.asking-a.ensures) ∙ c.if-a-ne0.false
 
--- the last cell has come
-passed : (c : Else-a-ne0)
-    → let a = c.args in
-    T (faultless a.p) × T (is_state a.p.mode a.state.now) × (length a.«data».now ≡ 122 * a.p.k)
-    × (seen a.state.now ≡ 4096 * symbols a.p.mode)
-passed c =
-    let a = c.args in
-    (asking-0 a.p a.state.now (length a.«data».now)).0 (zero c)
+  -- the last cell has come
+  passed : let a = c.args in
+      T (faultless a.p) × T (is_state a.p.mode a.state.now) × (length a.«data».now ≡ 122 * a.p.k)
+      × (seen a.state.now ≡ 4096 * symbols a.p.mode)
+  passed = let a = c.args in (asking-0 a.p a.state.now (length a.«data».now)).0 zero
 
--- the bytes of the grid's cells
-kept-long : (c : After-symbol_count)
-    → let a = c.args in
-    length (part 2 (2 + 4096 * c.symbol_count.result) a.state.now) ≡ 4096 * symbols a.p.mode
-kept-long c =
-    let a = c.args in
-    let n = c.symbol_count in
-    let none = sym (ap (λ (x : Answer). x.number) c.asking-a.ensures) ∙ c.if-a-ne0.false in
-    let long = ((is_state_lem _ _).0 ((asking-0 a.p a.state.now (length a.«data».now)).0 none).1).long in
-    part-long 2 (2 + 4096 * n.result) c.args.state.now (omega arith) (omega (arith, long, n.ensures.1))
-    ∙ omega (arith, n.ensures.0)
+  long : length c.args.state.now ≡ state_bytes
+  long = ((is_state_lem _ _).0 passed.1).long
+
+  -- the bytes of the grid's cells
+  kept-long : length (part 2 (2 + 4096 * c.symbol_count.result) c.args.state.now) ≡ 4096 * symbols c.args.p.mode
+  kept-long =
+      let n = c.symbol_count in
+      part-long 2 (2 + 4096 * n.result) c.args.state.now (omega arith) (omega (arith, long, n.ensures.1)) ∙ omega (arith, n.ensures.0)
 
 pub returns-then-a-ne0 : goal.returns-then-a-ne0
 returns-then-a-ne0 c =
@@ -50,20 +45,20 @@ returns-then-a-ne0 c =
 
 pub slice_bounds-judge_cells-end : goal.slice_bounds-judge_cells-end
 slice_bounds-judge_cells-end c =
-    omega (arith, ((is_state_lem _ _).0 (passed (goal.at.slice_bounds-judge_cells-end c).Else-a-ne0).1).long, c.symbol_count.ensures.1)
+    omega (arith, long (goal.at.slice_bounds-judge_cells-end c).After-symbol_count, c.symbol_count.ensures.1)
 
 pub judge_cells-requires : goal.judge_cells-requires
 judge_cells-requires c =
-    let w = passed (goal.at.judge_cells-requires c).Else-a-ne0 in
+    let w = passed (goal.at.judge_cells-requires c).After-symbol_count in
     (w.0, w.2, kept-long (goal.at.judge_cells-requires c).After-symbol_count)
 
 pub returns : goal.returns
 returns c =
     let a = c.args in
-    let long = ((is_state_lem _ _).0 (passed (goal.at.returns c).Else-a-ne0).1).long in
+    let long = long (goal.at.returns c).After-symbol_count in
     let state = a.state.now in
     answered-judged a.p a.marks _ (understood a.p (in_block a.p.mode (kept_bit a.p.mode (cell_in state)))) a.«data».now _ c.judge_cells.result
-    (zero (goal.at.returns c).Else-a-ne0)
+    (zero (goal.at.returns c).After-symbol_count)
     (cells-judged a.p a.marks (row (part 2 (2 + 4096 * c.symbol_count.result) state)) (cell_in state)
     (λ j h.
     part_at 2 (2 + 4096 * c.symbol_count.result) state (omega arith) (omega (arith, long, c.symbol_count.ensures.1)) j 0

@@ -8,25 +8,20 @@ use Rattle.rules.specs.Bits.{row}
 use Rattle.rules.specs.Modes.{symbols}
 use Rattle.rules.specs.Block.{early, decided}
 use Rattle.rules.specs.declared.Answer.{Answer}
-use Rattle.rules.specs.declared.Profile.{Profile}
 use Rattle.laws.specs.Holds.{Holds}
 use Rattle.rules.specs.Pieces.{byte_at}
-use Rattle.block.proofs.Passed.{Right, right}
+use Rattle.block.proofs.Passed.{Right, right, early-symbols}
 use Rattle.receiving.proofs.Numbers.{answered-refused, answered-judged}
 use Rattle.receiving.proofs.Judgement.{kept-judged}
 use Rattle.receiving.proofs.Putting.{piece_bytes, zeros-long, whole_long, front_long, front_at}
 use Rattle.receiving.proofs.receive.Goals.{After-decide_cells}
 use Rattle.receiving.proofs.receive.Goals as goal
 
--- the first answer
-number : (P : Profile) (m d f s : ℕ) {n : ℕ} {a : Answer} → n ≡ symbols m → a ≡ early P d f s (4096 * n) → a ≡ early P d f s (4096 * symbols m)
-number P m d f s e is = is ∙ ap (λ (n : ℕ). early P d f s (4096 * n)) e
-
 module _ (c : After-decide_cells) where
-  -- it is 0
+  -- the first answer is 0
   zero : (early c.args.p (length c.args.«data».now) (length c.args.firsts.now) (length c.args.seconds.now) (4096 * symbols c.args.p.mode)).number ≡ 0
   zero =
-      sym (ap (λ (x : Answer). x.number) (number c.args.p c.args.p.mode _ _ _ c.symbol_count-n.ensures.0 c.early-a.ensures)) ∙ c.if-a-ne0.false
+      sym (ap (λ (x : Answer). x.number) (early-symbols c.args.p _ _ _ c.symbol_count-n.ensures.0 c.early-a.ensures)) ∙ c.if-a-ne0.false
 
   -- everything passed
   passed : Right c.args.p (length c.args.«data».now) (length c.args.firsts.now) (length c.args.seconds.now) (4096 * symbols c.args.p.mode)
@@ -59,7 +54,7 @@ pub returns-then-a-ne0 : goal.returns-then-a-ne0
 returns-then-a-ne0 c =
     let a = c.args in
     answered-refused a.p a.marks _ (decided a.p a.firsts.now a.seconds.now) a.«data».now a.«data».now c.silence.result
-    c.early-a.result (number a.p a.p.mode _ _ _ c.symbol_count-n.ensures.0 c.early-a.ensures) c.if-a-ne0.true c.silence.ensures refl
+    c.early-a.result (early-symbols a.p _ _ _ c.symbol_count-n.ensures.0 c.early-a.ensures) c.if-a-ne0.true c.silence.ensures refl
 
 pub slice_bounds-decide_cells-end : goal.slice_bounds-decide_cells-end
 slice_bounds-decide_cells-end c = sym (zeros-long 28672 (4096 * c.symbol_count-n.result) (omega (arith, c.symbol_count-n.ensures.1)))

@@ -1,35 +1,22 @@
 -- `sending::send` meets its contract.
-use mathlib.Core.Path.{◌≡◌, refl, sym, ◌∙◌, ap}
-use Prim.Native.Nat.{ℕ, ◌*◌}
+use mathlib.Core.Path.{refl, sym, ◌∙◌, ap}
+use Prim.Native.Nat.{◌*◌}
 use borrow.Author.Rules.{rules}
 use lib.ListN.{length, take}
 use Rattle.rules.specs.Modes.{symbols}
-use Rattle.rules.specs.Block.{early}
 use Rattle.rules.specs.declared.Answer.{Answer}
-use Rattle.block.proofs.Passed.{Right, right}
+use Rattle.block.proofs.Passed.{Right, right, early-symbols}
 use Rattle.sending.proofs.Cells.{Front, front, grid_cells}
-use Rattle.sending.proofs.send.Goals.{After-block_bits-n, After-early-a, Else-a-ne0}
+use Rattle.sending.proofs.send.Goals.{After-block_bits-n, Else-a-ne0}
 use Rattle.sending.proofs.send.Goals as goal
 
-answer : (c : After-early-a)
-    → (let a = c.args in
-    c.early-a.result
-    ≡ early a.p (length a.«data».now) (length a.firsts.now) (length a.seconds.now) (4096 * symbols a.p.mode))
-answer c =
-    let a = c.args in
-    c.early-a.ensures
-    ∙ ap (λ (n : ℕ). early a.p (length a.«data».now) (length a.firsts.now) (length a.seconds.now) (4096 * n))
-    c.symbol_count.ensures.0
-
+-- everything passed
 passed : (c : Else-a-ne0)
     → (let a = c.args in
     Right a.p (length a.«data».now) (length a.firsts.now) (length a.seconds.now) (4096 * symbols a.p.mode))
 passed c =
-    let a = c.args in
-    let e : c.early-a.result ≡ early a.p (length a.«data».now) (length a.firsts.now) (length a.seconds.now) (4096 * symbols a.p.mode) =
-    c.early-a.ensures
-    ∙ ap (λ (n : ℕ). early a.p (length a.«data».now) (length a.firsts.now) (length a.seconds.now) (4096 * n)) c.symbol_count.ensures.0 in
-    right _ _ _ _ _ (sym (ap (λ (x : Answer). x.number) e) ∙ c.if-a-ne0.false)
+    right _ _ _ _ _
+    (sym (ap (λ (x : Answer). x.number) (early-symbols c.args.p _ _ _ c.symbol_count.ensures.0 c.early-a.ensures)) ∙ c.if-a-ne0.false)
 
 -- the bits that are lent
 lent : (c : After-block_bits-n)
@@ -42,7 +29,7 @@ lent c =
     (search rules) b.ensures
 
 pub returns-then-a-ne0 : goal.returns-then-a-ne0
-returns-then-a-ne0 c = record { answer = answer (goal.at.returns-then-a-ne0 c).After-early-a; cells = λ z. absurd (c.if-a-ne0.true z); kept = λ _. (refl, refl) }
+returns-then-a-ne0 c = record { answer = early-symbols c.args.p _ _ _ c.symbol_count.ensures.0 c.early-a.ensures; cells = λ z. absurd (c.if-a-ne0.true z); kept = λ _. (refl, refl) }
 
 pub sent_bits-bits-requires : goal.sent_bits-bits-requires
 sent_bits-bits-requires c = ((passed (goal.at.sent_bits-bits-requires c).Else-a-ne0).range, (passed (goal.at.sent_bits-bits-requires c).Else-a-ne0).data_long)
@@ -59,7 +46,7 @@ pub returns : goal.returns
 returns c =
     let a = c.args in
     record {
-      answer = answer (goal.at.returns c).After-early-a;
+      answer = early-symbols c.args.p _ _ _ c.symbol_count.ensures.0 c.early-a.ensures;
       cells = λ _. grid_cells a.p a.«data».now _ (lent (goal.at.returns c).After-block_bits-n).sent _ _ c.write_grid.ensures;
       kept = λ n. absurd (n c.if-a-ne0.false);
     }
