@@ -10,7 +10,7 @@ use Rattle.rules.specs.Bits.{pick}
 use Rattle.rules.specs.Profile.{faultless}
 use Rattle.rules.specs.Block.{early}
 use Rattle.rules.specs.Modes.{symbols}
-use Rattle.rules.specs.declared.Answer.{Answer}
+use Rattle.rules.specs.Answers.{Answer}
 use Rattle.rules.specs.declared.Profile.{Profile}
 use Rattle.profile.proofs.AtFault.{or-number}
 

@@ -9,7 +9,7 @@ use borrow.Author.Tests.{eq-eqb, le-ltb}
 use Rattle.rules.specs.Modes.{symbols}
 use Rattle.rules.specs.Block.{early, silence, ReceiveRule}
 use Rattle.rules.specs.Pieces.{seen, cell_in, asking, FeedRule, Fed, AskRule}
-use Rattle.rules.specs.declared.Answer.{Answer}
+use Rattle.rules.specs.Answers.{Answer}
 use Rattle.rules.specs.declared.Profile.{Profile}
 use Rattle.rules.specs.declared.Receipt.{Receipt}
 use Rattle.receiving.proofs.Judgement.{kept-judged}

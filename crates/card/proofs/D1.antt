@@ -17,7 +17,7 @@ use Rattle.rules.specs.Block.{check_right, reserved_right, decided_data}
 use Rattle.rules.specs.Pieces.{asking}
 use Rattle.rules.specs.Compare.{one_length, comparing_number}
 use Rattle.rules.specs.Demands.{D1}
-use Rattle.rules.specs.declared.Answer.{Answer}
+use Rattle.rules.specs.Answers.{Answer}
 use Rattle.rules.specs.declared.Profile.{Profile}
 use Rattle.rules.specs.declared.Receipt.{Receipt}
 use Rattle.profile.proofs.RoundTrip.{read_number, write-told}

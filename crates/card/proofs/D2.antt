@@ -17,7 +17,7 @@ use Rattle.rules.specs.Profile.{only, ◌or◌, faultless}
 use Rattle.rules.specs.Answers.{has_read, names_fault}
 use Rattle.rules.specs.Block.{lengths, early, Cells, sent_cell, SendRule, SendSymbolRule, Accepted, ReceiveRule}
 use Rattle.rules.specs.Demands.{D2, SomePacket}
-use Rattle.rules.specs.declared.Answer.{Answer}
+use Rattle.rules.specs.Answers.{Answer}
 use Rattle.rules.specs.declared.Profile.{Profile}
 use Rattle.rules.specs.declared.Receipt.{Receipt}
 use Rattle.laws.specs.Holds.{holds_one}

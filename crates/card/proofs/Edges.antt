@@ -22,7 +22,7 @@ use Rattle.rules.specs.Pieces.{seen, is_state, asking_number, asking, FeedRule, 
 use Rattle.rules.specs.Totals.{is_block, is_accepted, has_reason, counts, how_often, AddRule, Summed}
 use Rattle.rules.specs.Totals.Reordered.{first, exchanged, again}
 use Rattle.rules.specs.Demands.{InAgreement, bit_in_place, heard_in_place, sent_in_place, Doubtful, Lost, Members}
-use Rattle.rules.specs.declared.Answer.{Answer}
+use Rattle.rules.specs.Answers.{Answer}
 use Rattle.rules.specs.declared.Profile.{Profile}
 use Rattle.rules.specs.declared.Receipt.{Receipt}
 use Rattle.laws.specs.Every.{every-at}

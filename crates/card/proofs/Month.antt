@@ -15,7 +15,7 @@ use Rattle.rules.specs.Modes.{symbols}
 use Rattle.rules.specs.Pieces.{asking, AskRule}
 use Rattle.rules.specs.Totals.{agrees}
 use Rattle.rules.specs.Demands.{WholeNumbers}
-use Rattle.rules.specs.declared.Answer.{Answer}
+use Rattle.rules.specs.Answers.{Answer}
 use Rattle.rules.specs.declared.Profile.{Profile}
 use Rattle.rules.specs.declared.Receipt.{Receipt}
 use Rattle.laws.specs.Every.{every_of}

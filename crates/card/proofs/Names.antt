@@ -10,7 +10,7 @@ use Rattle.rules.specs.Answers.{names_fault}
 use Rattle.rules.specs.Profile.{only, ◌or◌, fault}
 use Rattle.rules.specs.Block.{lengths, early, Answered}
 use Rattle.rules.specs.Demands.{Names}
-use Rattle.rules.specs.declared.Answer.{Answer}
+use Rattle.rules.specs.Answers.{Answer}
 use Rattle.rules.specs.declared.Profile.{Profile}
 use Rattle.rules.specs.declared.Receipt.{Receipt}
 use Rattle.profile.proofs.AtFault.{or_assoc, only-or, or-number, named-unread, fault-names}

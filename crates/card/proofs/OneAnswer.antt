@@ -14,7 +14,7 @@ use Rattle.rules.specs.Modes.{symbols}
 use Rattle.rules.specs.Profile.{faultless}
 use Rattle.rules.specs.Block.{early, decided, packet_part, decided_data, byte_of, lost_mask, Delivered, Judged, Answered, ReceiveRule}
 use Rattle.rules.specs.Pieces.{asking, AskRule}
-use Rattle.rules.specs.declared.Answer.{Answer}
+use Rattle.rules.specs.Answers.{Answer}
 use Rattle.rules.specs.declared.Profile.{Profile}
 use Rattle.rules.specs.declared.Receipt.{Receipt}
 use Rattle.outer.proofs.Roots.{k-range, rate as outer-rate}

@@ -10,7 +10,7 @@ use Rattle.rules.specs.Modes.{slot_bits, slots, symbols}
 use Rattle.rules.specs.Profile.{faultless}
 use Rattle.rules.specs.Answers.{has_read}
 use Rattle.rules.specs.Block.{early, heard, decided, silence, Accepted, Answered, ReceiveRule}
-use Rattle.rules.specs.declared.Answer.{Answer}
+use Rattle.rules.specs.Answers.{Answer}
 use Rattle.rules.specs.declared.Profile.{Profile}
 use Rattle.rules.specs.declared.Receipt.{Receipt}
 use Rattle.modes.proofs.Figures.{in-slot}

@@ -15,9 +15,9 @@ use Rattle.rules.specs.Demands.{NoTwins, Repeats, FirstRepeat, twins_at}
 use Rattle.rules.specs.Modes.{slots}
 use Rattle.rules.specs.Profile.{fields, blank, only, alike, are_twins, earliest, repeats, first_repeat, twin_fault, fault_from, fault, in_range, faultless, walk, refused, unless, read_as, reading, headed, spelt}
 use Rattle.rules.specs.Slots.{symbol_of, slot_number}
-use Rattle.rules.specs.declared.Answer.{Answer}
+use Rattle.rules.specs.Answers.{Answer}
 use Rattle.rules.specs.declared.Profile.{Profile}
-use Rattle.rules.specs.declared.Reading.{Reading}
+use Rattle.rules.specs.Profile.{Reading}
 use Rattle.laws.specs.Filled.{pick-lt, pick-ge}
 use Rattle.laws.specs.First.{First, first, first-is}
 use Rattle.profile.proofs.AtFault.{fine, good-range, after-range, field-first}

@@ -2,7 +2,7 @@
 use Rattle.std.proofs.Common.{◌≡◌, ◌∙◌, List, ℕ, ◌≤◌, arith, length}
 use Rattle.rules.specs.Compare.{Grids, CompareRule, differing}
 use Rattle.rules.specs.Demands.{Symbols}
-use Rattle.rules.specs.declared.Comparison.{Comparison}
+use Rattle.rules.specs.Compare.{Comparison}
 use Rattle.comparing.proofs.SideBySide.{symbols-number, differing-few}
 
 module _ {from : ℕ} {G : Grids} {before after : List ℕ} {a : Comparison} (one : Symbols G 1) (rule : CompareRule from G before after a) where

@@ -9,7 +9,7 @@ use lib.ListN.{length, take}
 use Rattle.rules.specs.Bits.{row}
 use Rattle.rules.specs.Compare.{Grids, differs, differing, difference, CompareRule, symbol_alone, in_turn}
 use Rattle.rules.specs.Demands.{Symbols}
-use Rattle.rules.specs.declared.Comparison.{Comparison}
+use Rattle.rules.specs.Compare.{Comparison}
 use Rattle.comparing.proofs.SideBySide.{side_by_side}
 
 module _ (G : Grids) (before after : List ℕ) (a : Comparison) (r : CompareRule 0 G before after a) where

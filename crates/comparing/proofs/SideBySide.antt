@@ -13,7 +13,7 @@ use lib.Seq.{ext_get_or, get_or-take, get_or-drop, length-take-le}
 use Rattle.rules.specs.Bits.{row, passing}
 use Rattle.rules.specs.Compare.{Grids, differs, differing, difference, one_length, comparing_number, CompareRule, symbol_alone, in_turn, total}
 use Rattle.rules.specs.Demands.{Symbols, SideBySide}
-use Rattle.rules.specs.declared.Comparison.{Comparison}
+use Rattle.rules.specs.Compare.{Comparison}
 use Rattle.comparing.proofs.Lengths.{one-length, compared-lengths}
 use Rattle.comparing.proofs.Passing.{each-passes, passing-rises, none-missing, passing-few, passing-parts, passing-shift, passing-same, map-long}
 use Rattle.comparing.proofs.Filling.{filled-long, filled_at, filled-behind, filled-all, flat, flat-parts, flat-renumbered}

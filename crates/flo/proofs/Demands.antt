@@ -11,10 +11,10 @@ use Rattle.rules.specs.Answers.{is_number, is_answer, is_reason}
 use Rattle.rules.specs.Outer.{is_k}
 use Rattle.rules.specs.Profile.{only, reading}
 use Rattle.rules.specs.Compare.{grids}
-use Rattle.rules.specs.declared.Answer.{Answer}
-use Rattle.rules.specs.declared.Comparison.{Comparison}
+use Rattle.rules.specs.Answers.{Answer}
+use Rattle.rules.specs.Compare.{Comparison}
 use Rattle.rules.specs.declared.Profile.{Profile}
-use Rattle.rules.specs.declared.Writing.{Writing}
+use Rattle.rules.specs.Profile.{Writing}
 use Rattle.rules.specs.declared.Receipt.{Receipt}
 use Rattle.outer.proofs.Answers.{one-parity}
 use Rattle.comparing.proofs.SideBySide.{side_by_side}

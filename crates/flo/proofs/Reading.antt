@@ -4,9 +4,9 @@ use mathlib.Core.List.{List}
 use Prim.Native.Nat.{ℕ}
 use Rattle.rules.specs.Profile.{reading}
 use Rattle.rules.specs.Block.{silence}
-use Rattle.rules.specs.declared.Answer.{Answer}
+use Rattle.rules.specs.Answers.{Answer}
 use Rattle.rules.specs.declared.Profile.{Profile}
-use Rattle.rules.specs.declared.Reading.{Reading}
+use Rattle.rules.specs.Profile.{Reading}
 use Rattle.rules.specs.declared.Receipt.{Receipt}
 use Rattle.flo.specs.Calls.{AfterReading, receipt_of, Unread}
 

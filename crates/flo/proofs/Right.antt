@@ -15,11 +15,11 @@ use Rattle.rules.specs.Pieces.{FeedRule, Fed, LeftBy}
 use Rattle.rules.specs.Totals.{agrees, AddRule, Summed}
 use Rattle.rules.specs.Totals.Summed.{start, taken, refused as Turned-down}
 use Rattle.rules.specs.Demands.{Names}
-use Rattle.rules.specs.declared.Answer.{Answer}
+use Rattle.rules.specs.Answers.{Answer}
 use Rattle.rules.specs.declared.Profile.{Profile}
-use Rattle.rules.specs.declared.Reading.{Reading}
+use Rattle.rules.specs.Profile.{Reading}
 use Rattle.rules.specs.declared.Receipt.{Receipt}
-use Rattle.rules.specs.declared.Writing.{Writing}
+use Rattle.rules.specs.Profile.{Writing}
 use Rattle.profile.proofs.RoundTrip.{unread, not-22}
 use Rattle.card.proofs.D2.{d2}
 use Rattle.card.proofs.D3.{d3}

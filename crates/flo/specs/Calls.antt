@@ -6,7 +6,7 @@ use Rattle.rules.specs.Block.{SendRule, SendSymbolRule, ReceiveRule}
 use Rattle.rules.specs.Pieces.{FeedRule, AskRule}
 use Rattle.rules.specs.Compare.{grids, CompareRule}
 use Rattle.rules.specs.Totals.{AddRule}
-use Rattle.rules.specs.declared.Answer.{Answer}
+use Rattle.rules.specs.Answers.{Answer}
 use Rattle.rules.specs.declared.Profile.{Profile}
 use Rattle.rules.specs.declared.Receipt.{Receipt}
 

@@ -12,7 +12,7 @@ use Rattle.rules.specs.Block.{Cells}
 use Rattle.rules.specs.Pieces.{Fed, LeftBy}
 use Rattle.rules.specs.Totals.{Summed}
 use Rattle.rules.specs.Demands.{SomePacket, Fair, BringsBack, OfPosition}
-use Rattle.rules.specs.declared.Answer.{Answer}
+use Rattle.rules.specs.Answers.{Answer}
 use Rattle.rules.specs.declared.Profile.{Profile}
 use Rattle.rules.specs.declared.Receipt.{Receipt}
 use Rattle.flo.specs.Calls.{refusal, FloSend, FloSendSymbol, FloReceive, FloFeed, FloAsk, FloReadProfile, FloWriteProfile, FloParity, FloCompare, FloAdd, FloAdds}

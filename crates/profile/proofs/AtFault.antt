@@ -13,7 +13,7 @@ use Rattle.rules.specs.Bits.{pick}
 use Rattle.rules.specs.Demands.{Names}
 use Rattle.rules.specs.Modes.{slots}
 use Rattle.rules.specs.Profile.{fields, only, ◌or◌, fault_from, first_repeat, twin_fault, fault, in_range, faultless}
-use Rattle.rules.specs.declared.Answer.{Answer}
+use Rattle.rules.specs.Answers.{Answer}
 use Rattle.rules.specs.declared.Profile.{Profile}
 use Rattle.profile.proofs.Table.{Good, good-from, from_named, first-passed, first-stays, named-not-zero}
 use Rattle.profile.proofs.Entries.{laws}

@@ -19,7 +19,7 @@ use Rattle.rules.specs.Modes.{is_mode, slots}
 use Rattle.modes.proofs.Figures.{figures}
 use Rattle.rules.specs.Answers.{names_field}
 use Rattle.rules.specs.Profile.{number, words, all_bytes, word_bytes, each, in20, is_level, is_floor, floor_under, sends, level_in_mode, only, fields, blank}
-use Rattle.rules.specs.declared.Answer.{Answer}
+use Rattle.rules.specs.Answers.{Answer}
 use Rattle.rules.specs.declared.Profile.{Profile}
 use Rattle.rules.specs.Profile.{Shape, Whole}
 use Rattle.profile.proofs.Tests.{all_good, good-apart}

@@ -7,7 +7,7 @@ use Rattle.rules.specs.Modes.{is_mode, part_bits}
 use Rattle.rules.specs.Outer.{is_k}
 use Rattle.rules.specs.Profile as rule
 use Rattle.rules.specs.Profile.{is_level, floor_under, faultless, level_in_mode, only}
-use Rattle.rules.specs.declared.Answer.{Answer}
+use Rattle.rules.specs.Answers.{Answer}
 use Rattle.rules.specs.declared.Profile.{Profile}
 use Rattle.laws.specs.Decisions.{Good}
 use Rattle.profile.proofs.AtFault.{fine}

@@ -16,10 +16,10 @@ use Rattle.rules.specs.Demands.{Names}
 use Rattle.rules.specs.Bits.{pick, row}
 use Rattle.rules.specs.Modes.{slots}
 use Rattle.rules.specs.Profile.{Shape, Whole, fields, blank, only, ◌or◌, fault_from, twin_fault, fault, faultless, walk, refused, unless, untwinned, reading, read_as, headed, spelt, written, writing, largest}
-use Rattle.rules.specs.declared.Answer.{Answer}
+use Rattle.rules.specs.Answers.{Answer}
 use Rattle.rules.specs.declared.Profile.{Profile}
-use Rattle.rules.specs.declared.Reading.{Reading}
-use Rattle.rules.specs.declared.Writing.{Writing}
+use Rattle.rules.specs.Profile.{Reading}
+use Rattle.rules.specs.Profile.{Writing}
 use Rattle.profile.proofs.Words.{bytes_of, bytes-at}
 use Rattle.profile.proofs.AtFault.{fine, by-fault, field-named, twin-named, fault-not-zero, good-range, after-range, named-unread, named-told, or-fine, or-faulty, fault-names}
 use Rattle.profile.proofs.Table.{table-read, table-written, table-answer, table-refused, table-spelt, table-length, table-bytes}

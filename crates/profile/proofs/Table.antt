@@ -16,9 +16,9 @@ use borrow.Author.Tests.{eq-eqb, eqb-true, ne_eqb, le-ltb, ltb-false, not-false}
 use Rattle.rules.specs.Bits.{pick, row}
 use Rattle.rules.specs.Answers.{names_field}
 use Rattle.rules.specs.Profile.{Field, ◌or◌, fault_from, fault_of, faulty, field_bytes, headed, only, refused, unless, spelt, walk}
-use Rattle.rules.specs.declared.Answer.{Answer}
+use Rattle.rules.specs.Answers.{Answer}
 use Rattle.rules.specs.declared.Profile.{Profile}
-use Rattle.rules.specs.declared.Reading.{Reading}
+use Rattle.rules.specs.Profile.{Reading}
 use Rattle.rules.specs.Profile.{Shape}
 use Rattle.profile.proofs.Tests.{all_good, faulty-test}
 use Rattle.profile.proofs.Words.{Bytes, bytes_apart, bytes-both}

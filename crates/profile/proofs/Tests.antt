@@ -12,7 +12,7 @@ use lib.ListN.{length, take, drop, length-append, take-append-drop}
 use Rattle.rules.specs.Bits.{pick}
 use Rattle.rules.specs.Profile.{Tested, each, faulty, in20, only}
 use Rattle.rules.specs.Modes.{slots}
-use Rattle.rules.specs.declared.Answer.{Answer}
+use Rattle.rules.specs.Answers.{Answer}
 use Rattle.ranges.specs.Ranges.{passed}
 use Rattle.ranges.proofs.Passed.{each-length}
 

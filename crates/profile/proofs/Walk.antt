@@ -13,9 +13,9 @@ use lib.Seq.{drop-cons, drop-drop, get_or-drop}
 use Rattle.laws.specs.Every.{every-at}
 use Rattle.rules.specs.Bits.{pick, row}
 use Rattle.rules.specs.Profile.{Field, fields, blank, ◌or◌, fault, fault_from, fault_of, twin_fault, only, walk, untwinned, reading, refused, unless}
-use Rattle.rules.specs.declared.Answer.{Answer}
+use Rattle.rules.specs.Answers.{Answer}
 use Rattle.rules.specs.declared.Profile.{Profile}
-use Rattle.rules.specs.declared.Reading.{Reading}
+use Rattle.rules.specs.Profile.{Reading}
 use Rattle.profile.specs.Fields.{none, many, field, heading, ending}
 use Rattle.profile.specs.Reader.{refused_at, taken}
 use Rattle.profile.specs.declared.reader.Step.{Step}

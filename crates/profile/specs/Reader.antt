@@ -2,7 +2,7 @@
 use Rattle.std.specs.Prelude.{List, ℕ, ◌+◌, eqb, take, drop}
 use Rattle.rules.specs.Bits.{pick}
 use Rattle.rules.specs.Profile.{only, fault_of}
-use Rattle.rules.specs.declared.Answer.{Answer}
+use Rattle.rules.specs.Answers.{Answer}
 use Rattle.rules.specs.declared.Profile.{Profile}
 use Rattle.profile.specs.Fields.{field, heading}
 use Rattle.profile.specs.declared.reader.Step.{Step}

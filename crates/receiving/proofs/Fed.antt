@@ -17,7 +17,7 @@ use Rattle.rules.specs.Bits.{pick, row, bit_of}
 use Rattle.rules.specs.Modes.{part_bits, symbols}
 use Rattle.rules.specs.Points.{zero_part, part, decide}
 use Rattle.rules.specs.Profile.{only, faultless}
-use Rattle.rules.specs.declared.Answer.{Answer}
+use Rattle.rules.specs.Answers.{Answer}
 use Rattle.profile.proofs.AtFault.{or-zero}
 use Rattle.rules.specs.Answers.{has_read}
 use Rattle.rules.specs.Block.{Answered, Delivered}

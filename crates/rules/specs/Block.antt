@@ -1,5 +1,5 @@
 -- Document 01: the block that is sent, and the answer that receiving gives.
-use Rattle.std.specs.Prelude.{◌≡◌, Bool, not, ◌&&◌, List, ℕ, zero, suc, ◌+◌, ◌-◌, ◌*◌, ◌/◌, ◌%◌, ◌^◌, ◌<◌, ◌≤◌, T, eqb, ltb, Float, length, get_or, replicate}
+use Rattle.std.specs.Prelude.{◌≡◌, Option, Some, None, Bool, not, ◌&&◌, List, ℕ, zero, suc, ◌+◌, ◌-◌, ◌*◌, ◌/◌, ◌%◌, ◌^◌, ◌<◌, ◌≤◌, T, eqb, ltb, Float, length, get_or, replicate}
 use Rattle.std.specs.Int.Count.{ones}
 use Rattle.rules.specs.Bits.{pick, row, bit_of, every_below}
 use Rattle.rules.specs.Packet.{check_word}
@@ -12,10 +12,9 @@ use Rattle.rules.specs.Points.{zero_part, point_of, first_part, second_part, dou
 use Rattle.rules.specs.Cells.{carried, grid_cell}
 use Rattle.rules.specs.Profile.{only, ◌or◌, fault}
 use Rattle.rules.specs.Answers.{has_read}
-use Rattle.rules.specs.declared.Answer.{Answer}
+use Rattle.rules.specs.Answers.{Answer}
 use Rattle.rules.specs.declared.Profile.{Profile}
-use Rattle.rules.specs.declared.Carried.{Carried}
-use Rattle.rules.specs.declared.Carried.TheVariants.{Nothing, PointOf}
+use Rattle.rules.specs.declared.PointOf.{PointOf}
 use Rattle.rules.specs.declared.Cell.{Cell}
 use Rattle.rules.specs.declared.Cell.TheVariants.{Silent, Carries}
 use Rattle.rules.specs.declared.Receipt.{Receipt}
@@ -35,9 +34,9 @@ unfoldable pub sent_bit : Profile → List ℕ → ℕ → ℕ → ℕ
 sent_bit P d t i = (block_bit P.mode (packet P.k d) (slot_bits P.mode * t + i) + scrambler P t i) % 2
 
 -- the cell that carries a point of the scrambled bits: bits 2wi + j of slot t are s0, s1, .. of its point i, where a part has w bits
-abbrev pub cell_for : ℕ → Float → (ℕ → ℕ → ℕ) → Carried → Cell
-cell_for w level bits Nothing = Silent
-cell_for w level bits (PointOf t i) = Carries (point_of w level (λ j. bits t (2 * w * i + j)))
+abbrev pub cell_for : ℕ → Float → (ℕ → ℕ → ℕ) → Option PointOf → Cell
+cell_for w level bits None = Silent
+cell_for w level bits (Some p) = Carries (point_of w level (λ j. bits p.slot (2 * w * p.point + j)))
 
 -- cell c of a symbol
 abbrev pub sent_cell : Profile → List ℕ → ℕ → ℕ → Cell

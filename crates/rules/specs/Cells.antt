@@ -1,11 +1,10 @@
 -- Document 01, "Slots, scrambling, points": interlaces and cells; which point a cell carries. The places of points are those of document 02, Req 01.
-use Rattle.std.specs.Prelude.{◌&&◌, ◌||◌, ℕ, ◌+◌, ◌-◌, ◌*◌, ◌/◌, ◌%◌, eqb, leb, ltb}
+use Rattle.std.specs.Prelude.{Option, Some, None, ◌&&◌, ◌||◌, ℕ, ◌+◌, ◌-◌, ◌*◌, ◌/◌, ◌%◌, eqb, leb, ltb}
 use Rattle.rules.specs.Bits.{pick}
 use Rattle.rules.specs.Kept.{reversed, kept, count}
 use Rattle.rules.specs.Modes.{slots}
 use Rattle.rules.specs.Slots.{symbol_of, slot_number}
-use Rattle.rules.specs.declared.Carried.{Carried}
-use Rattle.rules.specs.declared.Carried.TheVariants.{Nothing, PointOf}
+use Rattle.rules.specs.declared.PointOf.{PointOf}
 
 -- Run i from 0 to 511, reverse its nine bits, drop results of 500 and above; the n-th kept result is the place, in its interlace, of point n
 unfoldable pub place_of : ℕ → ℕ
@@ -47,14 +46,14 @@ belongs c =
     (pick (eqb (c % 8) 0 && ltb 2048 c) (place 0 ((c - 56) / 8)) (place (c % 8) ((c - 48) / 8)))
 
 -- what a cell carries: nothing, or point i of block slot t
-abbrev pub carried_by : ℕ → ℕ → ℕ → Carried
-carried_by m t i = pick (ltb t (slots m)) (PointOf t i) Nothing
+abbrev pub carried_by : ℕ → ℕ → ℕ → Option PointOf
+carried_by m t i = pick (ltb t (slots m)) (Some (record { slot = t; point = i })) None
 
-abbrev pub carried_at : ℕ → ℕ → Belongs → Carried
-carried_at m symbol outside = Nothing
+abbrev pub carried_at : ℕ → ℕ → Belongs → Option PointOf
+carried_at m symbol outside = None
 carried_at m symbol (place k i) =
-    pick (eqb (slot_of symbol k) 0) Nothing (carried_by m (7 * symbol + slot_of symbol k - 1) (point_at i))
+    pick (eqb (slot_of symbol k) 0) None (carried_by m (7 * symbol + slot_of symbol k - 1) (point_at i))
 
 -- cell c of a symbol, in mode m
-unfoldable pub carried : ℕ → ℕ → ℕ → Carried
+unfoldable pub carried : ℕ → ℕ → ℕ → Option PointOf
 carried m symbol c = carried_at m symbol (belongs c)

@@ -1,8 +1,9 @@
 -- Document 02, Req 05: two grids side by side, each as two lists of f32 bit patterns, numbers of 32 bits. Patterns are compared and not parts: +0.0 and
 -- -0.0 differ, and a NaN equals only the same bits.
-use Rattle.std.specs.Prelude.{◌≡◌, Bool, not, ◌&&◌, List, [], ◌∷◌, ◌++◌, map, ℕ, zero, suc, ◌+◌, ◌*◌, ◌/◌, ◌%◌, ◌^◌, eqb, ltb, length, take, drop}
+use Rattle.std.specs.Prelude.{◌≡◌, Result, Ok, Err, Bool, not, ◌&&◌, List, [], ◌∷◌, ◌++◌, map, ℕ, zero, suc, ◌+◌, ◌*◌, ◌/◌, ◌%◌, ◌^◌, eqb, ltb, length, take, drop}
 use Rattle.rules.specs.Bits.{pick, row, passing}
-use Rattle.rules.specs.declared.Comparison.{Comparison}
+use Rattle.rules.specs.declared.Refusal.{Refusal}
+use Rattle.rules.specs.Answers.{refusal_number}
 
 -- first and second parts of the one grid, and of the other
 pub record Grids : Type 0 where
@@ -44,7 +45,16 @@ one_length fa sa fb sb = eqb sa fa && (eqb fb fa && eqb sb fa)
 unfoldable pub comparing_number : ℕ → ℕ → ℕ → ℕ → ℕ
 comparing_number fa sa fb sb = pick (not (one_length fa sa fb sb)) 18 (pick (not (eqb (fa % 4096) 0)) 7 0)
 
--- what comparing answers, and what the lent list then holds
+-- what comparing answers: how many cells differ, zero at every number but 0
+pub record Comparison : Type 0 where
+  pub number : ℕ
+  pub count : ℕ
+
+abbrev pub comparison_of : Result ℕ Refusal → Comparison
+comparison_of (Ok count) = record { number = 0; count = count }
+comparison_of (Err e) = record { number = refusal_number e; count = 0 }
+
+-- the answer, and what the lent list then holds
 pub record CompareRule (from : ℕ) (G : Grids) (before after : List ℕ) (a : Comparison) : Type 0 where
   pub number : a.number ≡ comparing_number (length G.firsts_a) (length G.seconds_a) (length G.firsts_b) (length G.seconds_b)
   pub compared : a.number ≡ 0 → (a.count ≡ length (differing G)) × (after ≡ filled (differences from G) before)

@@ -17,8 +17,8 @@ use Rattle.rules.specs.Block.{Accepted, ReceiveRule}
 use Rattle.rules.specs.Pieces.{FeedRule, AskRule, Fed, LeftBy}
 use Rattle.rules.specs.Compare.{Grids, differs, differing, difference, CompareRule, symbol_alone, in_turn, total}
 use Rattle.rules.specs.Totals.{is_block, is_accepted, is_restored, is_undelivered, has_reason, counts, how_often, AddRule, Summed, Reordered}
-use Rattle.rules.specs.declared.Answer.{Answer}
-use Rattle.rules.specs.declared.Comparison.{Comparison}
+use Rattle.rules.specs.Answers.{Answer}
+use Rattle.rules.specs.Compare.{Comparison}
 use Rattle.rules.specs.declared.Profile.{Profile}
 use Rattle.rules.specs.declared.Receipt.{Receipt}
 

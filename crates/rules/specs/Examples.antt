@@ -1,6 +1,6 @@
 -- Document 01, "Bench examples", those marked P, and what document 02 names (Req 01 the places of points, Req 04 those of what is at fault in a profile,
 -- Req 05 two grids side by side, Req 06 the modes of 16QAM, Req 07 the floor, Req 08 twin scrambling, Req 09 totals): what the rules give, and what the documents say.
-use Rattle.std.specs.Prelude.{◌≡◌, List, [], ◌∷◌, ◌++◌, ℕ, suc, ◌+◌, ◌-◌, ◌/◌, ◌%◌, ◌^◌, eqb, length, replicate, take}
+use Rattle.std.specs.Prelude.{Some, ◌≡◌, List, [], ◌∷◌, ◌++◌, ℕ, suc, ◌+◌, ◌-◌, ◌/◌, ◌%◌, ◌^◌, eqb, length, replicate, take}
 use Rattle.std.specs.Float.{binary32}
 use Rattle.std.specs.Float.Ieee.{of_bits, to_bits}
 use Rattle.rules.specs.Bits.{pick, row, passing, first_of}
@@ -18,7 +18,6 @@ use Rattle.rules.specs.Compare.{grids, differing, difference, filled, comparing_
 use Rattle.rules.specs.Totals.{totals_of, no_totals, plus, adding_number}
 use Rattle.rules.specs.declared.Profile.{Profile}
 use Rattle.rules.specs.declared.Receipt.{Receipt}
-use Rattle.rules.specs.declared.Carried.TheVariants.{PointOf}
 
 -- a row that is 1 at i and 0 elsewhere
 abbrev pub only : ℕ → ℕ → ℕ
@@ -85,7 +84,7 @@ mapped n =
 -- the two parts of point 1 of block slot 2, where of all bits only bit b of that slot is 1
 abbrev pub carrying : ℕ → ℕ → List ℕ
 carrying w b =
-    let c = cell_for w (of_bits binary32 a1) (λ t i. pick (eqb t 2) (only b i) 0) (PointOf 2 1) in
+    let c = cell_for w (of_bits binary32 a1) (λ t i. pick (eqb t 2) (only b i) 0) (Some (record { slot = 2; point = 1 })) in
     to_bits binary32 (first_part c) ∷ to_bits binary32 (second_part c) ∷ []
 
 -- what a part of w bits, given by its own bits, decides to at level 1.5 and a floor, given by its bits

@@ -6,7 +6,7 @@ use Rattle.rules.specs.Points.{zero_part, decide, bit_in}
 use Rattle.rules.specs.Cells.{grid_cell}
 use Rattle.rules.specs.Profile.{only, ◌or◌, fault}
 use Rattle.rules.specs.Block.{understood, in_block, Answered}
-use Rattle.rules.specs.declared.Answer.{Answer}
+use Rattle.rules.specs.Answers.{Answer}
 use Rattle.rules.specs.declared.Profile.{Profile}
 use Rattle.rules.specs.declared.Receipt.{Receipt}
 

@@ -1,6 +1,6 @@
 -- Document 01, "Profile", and document 02, Req 04 and Req 07: the fields as a table that reading, writing and finding what is at fault in a value walk; and
 -- what is looked for after them, twin scrambling (Req 08).
-use Rattle.std.specs.Prelude.{◌≡◌, Bool, not, ◌&&◌, ◌||◌, List, [], ◌∷◌, ◌++◌, ℕ, zero, suc, ◌+◌, ◌-◌, ◌*◌, ◌/◌, ◌%◌, ◌^◌, ◌<◌, ◌≤◌, T, eqb, leb, ltb, Float, length, take, drop, replicate}
+use Rattle.std.specs.Prelude.{◌≡◌, Result, Ok, Err, Bool, not, ◌&&◌, ◌||◌, List, [], ◌∷◌, ◌++◌, ℕ, zero, suc, ◌+◌, ◌-◌, ◌*◌, ◌/◌, ◌%◌, ◌^◌, ◌<◌, ◌≤◌, T, eqb, leb, ltb, Float, length, take, drop, replicate}
 use Rattle.std.specs.Float.{binary32}
 use Rattle.std.specs.Float.Ieee.{of_bits, to_bits, add, lt, le, fits}
 use Rattle.rules.specs.Bits.{pick, row, first_from}
@@ -8,10 +8,10 @@ use Rattle.rules.specs.Outer.{is_k}
 use Rattle.rules.specs.Modes.{is_mode, part_bits, slots}
 use Rattle.rules.specs.Slots.{symbol_of, slot_number}
 use Rattle.rules.specs.Points.{zero_part, triple}
-use Rattle.rules.specs.declared.Answer.{Answer}
+use Rattle.rules.specs.Answers.{Answer, refusal_answer, refusal_number, refusal_place}
 use Rattle.rules.specs.declared.Profile.{Profile}
-use Rattle.rules.specs.declared.Reading.{Reading}
-use Rattle.rules.specs.declared.Writing.{Writing}
+use Rattle.rules.specs.declared.Refusal.{Refusal}
+use Rattle.rules.specs.declared.Written.{Written}
 
 -- ---- numbers high byte first
 
@@ -249,8 +249,18 @@ faultless p = eqb (fault p).number 0
 
 -- ---- reading
 
+-- what reading answers: at every number but 0 the profile has all numbers zero, D and the floor +0.0. The place is an answer's.
+pub record Reading : Type 0 where
+  pub number : ℕ
+  pub place : ℕ
+  pub profile : Profile
+
 abbrev pub refused : Answer → Reading
 refused a = record { number = a.number; place = a.place; profile = blank }
+
+abbrev pub reading_of : Result Profile Refusal → Reading
+reading_of (Ok p) = record { number = 0; place = 0; profile = p }
+reading_of (Err e) = refused (refusal_answer e)
 
 -- a reading, unless the answer has a number that refuses it
 abbrev pub unless : Answer → Reading → Reading
@@ -304,6 +314,17 @@ written p = field_bytes fields p
 
 abbrev pub largest : ℕ
 largest = 252
+
+-- what writing answers: zeros after the written bytes, and their count. The place is an answer's.
+pub record Writing : Type 0 where
+  pub number : ℕ
+  pub place : ℕ
+  pub bytes : List ℕ
+  pub count : ℕ
+
+abbrev pub writing_of : Result Written Refusal → Writing
+writing_of (Ok w) = record { number = 0; place = 0; bytes = w.bytes; count = w.count }
+writing_of (Err e) = record { number = refusal_number e; place = refusal_place e; bytes = replicate largest 0; count = 0 }
 
 abbrev pub writing : Profile → Writing
 writing p =

@@ -1,9 +1,11 @@
 -- Document 02, Req 09: a month in whole numbers. Totals over any number of blocks are 128 numbers, eight for each packet position.
-use Rattle.std.specs.Prelude.{◌≡◌, Bool, false, not, ◌||◌, ◌&&◌, List, [], ◌∷◌, ℕ, ◌+◌, ◌/◌, ◌%◌, ◌^◌, eqb, ltb, length, get_or, replicate}
+use Rattle.std.specs.Prelude.{◌≡◌, Result, Ok, Err, Bool, false, not, ◌||◌, ◌&&◌, List, [], ◌∷◌, ℕ, ◌+◌, ◌/◌, ◌%◌, ◌^◌, eqb, ltb, length, get_or, replicate}
 use Rattle.rules.specs.Bits.{pick, row, every_below, first_of}
 use Rattle.rules.specs.Answers.{is_reason, has_read}
 use Rattle.rules.specs.Block.{lost_mask}
 use Rattle.rules.specs.declared.Receipt.{Receipt}
+use Rattle.rules.specs.declared.Refusal.{Refusal}
+use Rattle.rules.specs.declared.Totals as declared
 
 -- ---- what is counted
 
@@ -81,6 +83,11 @@ pub record AddRule (before : List ℕ) (a : Receipt) (after : List ℕ) (n : ℕ
   pub number : n ≡ adding_number before a
   pub added : n ≡ 0 → after ≡ plus before a
   pub kept : ¬ (n ≡ 0) → after ≡ before
+
+-- the totals that a call leaves which takes them as a value: those that it gives back, or on a refusal those that it got
+abbrev pub totals_after : List ℕ → Result declared.Totals Refusal → List ℕ
+totals_after before (Ok t) = t.counts
+totals_after before (Err e) = before
 
 -- ---- adding receipts one after the other
 

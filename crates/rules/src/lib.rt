@@ -1,5 +1,10 @@
-// Document 01's declared types. What they mean is in specs/, which a reader has to believe; there is no code here.
+// Document 01's declared types. What they mean is in specs/, which a reader has to believe; the only code here says a refusal's number and place, in numbers
+// and in words.
 #![tactic(auto)]
+
+ghost use Rattle.std.specs.Prelude.{◌≡◌, ◌≤◌, take};
+
+mod numbers;
 
 // The rates of the turbo code.
 #[derive(Clone, Copy)]
@@ -23,11 +28,11 @@ pub enum Cell {
     Carries(Point),
 }
 
-// What a cell carries: nothing, or a point of a block slot, by the slot's and the point's number.
-#[derive(Clone, Copy)]
-pub enum Carried {
-    Nothing,
-    PointOf(usize, usize),
+// A point of a block slot, by the slot's and the point's number: what a cell carries, where it carries something.
+#[derive(Clone, Copy, Debug, PartialEq, Eq)]
+pub struct PointOf {
+    pub slot: usize,
+    pub point: usize,
 }
 
 // The profile as a value: the unused seeds are zero.
@@ -41,39 +46,79 @@ pub struct Profile {
     pub floor: f32,
 }
 
-// What a call answers: a number of the table, and the place. At 40 to 45, which name a field of the profile, that is the byte where the field's
-// first faulty number begins; at 46 the block slot that repeats an earlier one; at every other number it is zero.
-#[derive(Clone, Copy)]
-pub struct Answer {
-    pub number: u32,
-    pub place: usize,
+// Why a call refuses what it got: the refusals of the table, and those that document 02 adds. At Mask to Floor, which name a field of the profile, with the
+// byte where the field's first faulty number begins; at Twins with the block slot that repeats an earlier one.
+#[derive(Clone, Copy, Debug, PartialEq, Eq)]
+pub enum Refusal {
+    EndsInField,
+    WrongTag,
+    WrongLength,
+    EndsBetweenFields,
+    WrongData,
+    WrongCells,
+    OutsideGrid,
+    TooManyLost,
+    NoCodeword,
+    PastEnd,
+    Unfinished,
+    UnequalGrids,
+    FullTotal,
+    NoSuchState,
+    Disagreement,
+    Mask(usize),
+    Level(usize),
+    Mode(usize),
+    K(usize),
+    Seed(usize),
+    Floor(usize),
+    Twins(usize),
 }
 
-// What the outer code answers.
-#[derive(Clone, Copy)]
-pub enum Outcome {
-    Done,
+// What was lent is not of the length that it should have, so nothing was written.
+#[derive(Clone, Copy, Debug, PartialEq, Eq)]
+pub struct Misfit;
+
+// Why the outer code makes no parity and restores nothing.
+#[derive(Clone, Copy, Debug, PartialEq, Eq)]
+pub enum OuterError {
     BadK,
     BadLength,
     TooManyLost,
     NoCodeword,
 }
 
-// What reading a profile answers: at every number but 0 the profile has all numbers zero, D and the floor +0.0. The place is an answer's.
-#[derive(Clone, Copy)]
-pub struct Reading {
-    pub number: u32,
-    pub place: usize,
-    pub profile: Profile,
+// Why no packet is coded.
+#[derive(Clone, Copy, Debug, PartialEq, Eq)]
+pub enum CodingError {
+    WrongMode,
+    WrongLength,
 }
 
-// What writing a profile answers: zeros after the written bytes, and their count. The place is an answer's.
+// Why a packet is lost: it was marked, a bit is doubtful, the check word, the reserved bits or the coded bits are not right.
+#[derive(Clone, Copy, Debug, PartialEq, Eq)]
+pub enum Reason {
+    Marked,
+    Doubtful,
+    CheckWord,
+    Reserved,
+    Coded,
+}
+
+// A profile's bytes, and zeros after them: no profile is longer.
 #[derive(Clone, Copy)]
-pub struct Writing {
-    pub number: u32,
-    pub place: usize,
+pub struct Written {
     pub bytes: [u8; 252],
     pub count: usize,
+    ghost fits: { count ≤ 252 },
+}
+
+impl Written {
+    // Those of the profile alone.
+    pub fn as_bytes(&self) -> &[u8]
+        ensures { result.now ≡ take self.now.count self.now.bytes }
+    {
+        &self.bytes[..self.count]
+    }
 }
 
 // What receiving answers: bit p of the lost mask and reason p are packet p's. The place is an answer's.
@@ -85,38 +130,8 @@ pub struct Receipt {
     pub reasons: [u8; 16],
 }
 
-// What comparing two grids answers: how many cells differ, zero at every number but 0.
-#[derive(Clone, Copy)]
-pub struct Comparison {
-    pub number: u32,
-    pub count: u64,
-}
-
 // Totals over blocks: for packet position p, from 8p on, how often it was accepted, restored, undelivered, and how often each reason 11 to 15 came.
 #[derive(Clone, Copy)]
 pub struct Totals {
     pub counts: [u64; 128],
-}
-
-// What adding a receipt to totals answers, and what they then are.
-#[derive(Clone, Copy)]
-pub struct Added {
-    pub number: u32,
-    pub totals: Totals,
-}
-
-// What coding one packet answers.
-#[derive(Clone, Copy)]
-pub enum Coding {
-    Coded,
-    WrongMode,
-    WrongLength,
-}
-
-// The judgement on one packet's decided bits: the reason (0 accepted, 12 a doubtful bit, 13 check word, 14 reserved bits, 15 coded bits
-// differ), and the bytes that its bits decide to where it is accepted, else zeros.
-#[derive(Clone, Copy)]
-pub struct Judgement {
-    pub reason: u8,
-    pub bytes: [u8; 122],
 }

@@ -8,7 +8,7 @@ use Rattle.rules.specs.Bits.{pick}
 use Rattle.rules.specs.Answers.{coding_number}
 use Rattle.rules.specs.declared.Coding.{Coding}
 use Rattle.rules.specs.declared.Coding.TheVariants.{Coded, WrongMode, WrongLength}
-use Rattle.rules.specs.declared.Judgement.{Judgement}
+use Rattle.rules.specs.Answers.{Judgement}
 use Rattle.laws.specs.Holds.{holds_one}
 use Rattle.turbo.specs.Coded.{CodingRule, JudgingRule}
 

@@ -11,7 +11,7 @@ use Rattle.rules.specs.Points.{doubtful}
 use Rattle.rules.specs.Modes.{packet_bits}
 use Rattle.rules.specs.Slots.{coded}
 use Rattle.rules.specs.Block.{packet_part, decided_data, byte_of, verdict, reason}
-use Rattle.rules.specs.declared.Judgement.{Judgement}
+use Rattle.rules.specs.Answers.{Judgement}
 use Rattle.laws.specs.Every.{every-same}
 use Rattle.laws.specs.Filled.{holds-next, holds-new}
 use Rattle.laws.specs.Mask.{mask_lt, mask_next}

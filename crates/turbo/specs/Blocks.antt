@@ -4,7 +4,7 @@ use Rattle.rules.specs.Bits.{pick, row}
 use Rattle.rules.specs.Outer.{marked}
 use Rattle.rules.specs.Slots.{block_bit}
 use Rattle.rules.specs.Block.{packet_part, decided_data, byte_of, reason, lost_mask}
-use Rattle.rules.specs.declared.Judgement.{Judgement}
+use Rattle.rules.specs.Answers.{Judgement}
 use Rattle.laws.specs.Holds.{Holds}
 use Rattle.laws.specs.Filled.{up_to}
 

@@ -9,7 +9,7 @@ use Rattle.rules.specs.Modes.{is_mode, packet_bits}
 use Rattle.rules.specs.Slots.{coded}
 use Rattle.rules.specs.Block.{verdict, decided_data, byte_of}
 use Rattle.rules.specs.declared.Coding.{Coding}
-use Rattle.rules.specs.declared.Judgement.{Judgement}
+use Rattle.rules.specs.Answers.{Judgement}
 use Rattle.laws.specs.Holds.{Holds}
 use Rattle.patterns.specs.Places.{sent_place}
 

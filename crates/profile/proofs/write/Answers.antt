@@ -1,7 +1,7 @@
 -- A value with a number out of its range is refused; of any other, the stored bytes and zeros after them.
 use mathlib.Core.Path.{sym, ap, ◌∙◌}
 use Rattle.rules.specs.Profile.{Shape}
-use Rattle.rules.specs.declared.Answer.{Answer}
+use Rattle.rules.specs.Answers.{Answer}
 use Rattle.profile.proofs.Written.{written-most, writing-of, writing-not}
 use borrow.Author.Rules.{rules}
 use Rattle.profile.proofs.write.Goals.{Start}

@@ -9,7 +9,7 @@ use Rattle.rules.specs.Modes.{symbols}
 use Rattle.rules.specs.Profile.{faultless}
 use Rattle.rules.specs.Block.{understood, in_block}
 use Rattle.rules.specs.Pieces.{is_state, state_bytes, seen, cell_in, kept_bit, asking}
-use Rattle.rules.specs.declared.Answer.{Answer}
+use Rattle.rules.specs.Answers.{Answer}
 use Rattle.laws.specs.Parts.{part, part-long, part_at}
 use Rattle.receiving.proofs.Numbers.{answered-refused, answered-judged}
 use Rattle.receiving.proofs.States.{is_state_lem, asking-0}

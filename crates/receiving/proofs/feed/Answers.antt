@@ -7,7 +7,7 @@ use lib.ListN.{length}
 use Rattle.rules.specs.Modes.{symbols}
 use Rattle.rules.specs.Profile.{faultless}
 use Rattle.rules.specs.Pieces.{is_state, seen}
-use Rattle.rules.specs.declared.Answer.{Answer}
+use Rattle.rules.specs.Answers.{Answer}
 use Rattle.receiving.proofs.States.{is_state_lem, grid-fits, feeding-taken}
 use Rattle.receiving.proofs.feed.Goals.{Then-a-eq0}
 use Rattle.receiving.proofs.feed.Goals as goal

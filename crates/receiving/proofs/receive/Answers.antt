@@ -7,7 +7,7 @@ use lib.ListN.{length, take, drop, replicate}
 use Rattle.rules.specs.Bits.{row}
 use Rattle.rules.specs.Modes.{symbols}
 use Rattle.rules.specs.Block.{early, decided}
-use Rattle.rules.specs.declared.Answer.{Answer}
+use Rattle.rules.specs.Answers.{Answer}
 use Rattle.laws.specs.Holds.{Holds}
 use Rattle.rules.specs.Pieces.{byte_at}
 use Rattle.block.proofs.Passed.{Right, right, early-symbols}

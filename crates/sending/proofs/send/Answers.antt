@@ -4,7 +4,7 @@ use Prim.Native.Nat.{◌*◌}
 use borrow.Author.Rules.{rules}
 use lib.ListN.{length, take}
 use Rattle.rules.specs.Modes.{symbols}
-use Rattle.rules.specs.declared.Answer.{Answer}
+use Rattle.rules.specs.Answers.{Answer}
 use Rattle.block.proofs.Passed.{Right, right, early-symbols}
 use Rattle.sending.proofs.Cells.{Front, front, grid_cells}
 use Rattle.sending.proofs.send.Goals.{After-block_bits-n, Else-a-ne0}

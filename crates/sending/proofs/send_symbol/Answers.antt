@@ -7,7 +7,7 @@ use borrow.Author.Tests.{lt-ltb, le-ltb}
 use lib.ListN.{length, take}
 use Rattle.rules.specs.Modes.{symbols}
 use Rattle.rules.specs.Block.{early}
-use Rattle.rules.specs.declared.Answer.{Answer}
+use Rattle.rules.specs.Answers.{Answer}
 use Rattle.profile.proofs.Table.{first-passed, first-stays}
 use Rattle.cells.proofs.Fits.{write_done}
 use Rattle.block.proofs.Passed.{Right, right}

@@ -9,7 +9,7 @@ use Rattle.rules.specs.Bits.{row}
 use Rattle.rules.specs.Modes.{packet_bits}
 use Rattle.rules.specs.Slots.{coded, second}
 use Rattle.rules.specs.Block.{verdict, byte_of, decided_data, check_right, reserved_right}
-use Rattle.rules.specs.declared.Judgement.{Judgement}
+use Rattle.rules.specs.Answers.{Judgement}
 use Rattle.laws.specs.Holds.{Holds, holds_as}
 use Rattle.laws.specs.Rows.{Bits}
 use Rattle.laws.specs.Filled.{holds-bits}

@@ -9,7 +9,7 @@ use lib.ListN.{length, replicate, length-replicate, get_or-replicate}
 use borrow.Author.Tests.{eq-eqb, ne_eqb}
 use Rattle.rules.specs.Bits.{pick, row}
 use Rattle.rules.specs.Block.{reason, verdict, decided_data, byte_of}
-use Rattle.rules.specs.declared.Judgement.{Judgement}
+use Rattle.rules.specs.Answers.{Judgement}
 use Rattle.laws.specs.Holds.{Holds, holds_as}
 use Rattle.turbo.specs.Coded.{JudgingRule}
 use Rattle.turbo.specs.Blocks.{kept_byte, Weighed}
