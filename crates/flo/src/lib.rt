@@ -2,26 +2,30 @@
 #![tactic(auto)]
 
 ghost use Rattle.std.specs.Prelude.{◌≡◌};
+ghost use Rattle.rules.specs.Answers.{answer_of};
 ghost use Rattle.flo.specs.Calls.{FloSend, FloSendSymbol, FloReceive, FloFeed, FloAsk, FloReadProfile, FloWriteProfile, FloParity, FloCompare, FloAdd};
 
-use rules::{Answer, Profile, Reading, Receipt};
+use rules::{Profile, Receipt, Refusal};
 
-// Hands an answer's place over by the caller's pointer, and its number as the answer.
-fn place_over(answer: Answer, place: &mut usize) -> u32
-    ensures { record { number = result; place = place.new } ≡ answer }
+// The number of an answer.
+fn number_of<T: Drop>(ended: Result<T, Refusal>) -> u32
+    ensures { result ≡ (answer_of ended).number }
 {
-    *place = answer.place;
-    answer.number
+    match ended {
+        Ok(_) => 0,
+        Err(refusal) => refusal.number(),
+    }
 }
 
-// What reading a profile answers, without the profile.
-fn refusal(a: Reading) -> Answer
-    ensures { result ≡ record { number = a.number; place = a.place } }
+// Hands an answer's place over by the caller's pointer, and its number as the answer.
+fn place_over(ended: Result<(), Refusal>, place: &mut usize) -> u32
+    ensures { record { number = result; place = place.new } ≡ answer_of ended }
 {
-    Answer {
-        number: a.number,
-        place: a.place,
-    }
+    *place = match ended {
+        Ok(()) => 0,
+        Err(refusal) => refusal.place(),
+    };
+    number_of(ended)
 }
 
 pub fn flo_send(
@@ -33,11 +37,10 @@ pub fn flo_send(
 ) -> u32
     ensures { FloSend profile.now «data».now firsts.old seconds.old firsts.new seconds.new (record { number = result; place = place.new }) }
 {
-    let a = profile::read(profile);
-    if a.number != 0 {
-        return place_over(refusal(a), place);
-    }
-    let p = a.profile;
+    let p = match profile::read(profile) {
+        Ok(p) => p,
+        Err(refusal) => return place_over(Err(refusal), place),
+    };
     place_over(sending::send(p, data, firsts, seconds), place)
 }
 
@@ -51,11 +54,10 @@ pub fn flo_send_symbol(
 ) -> u32
     ensures { FloSendSymbol profile.now «data».now symbol firsts.old seconds.old firsts.new seconds.new (record { number = result; place = place.new }) }
 {
-    let a = profile::read(profile);
-    if a.number != 0 {
-        return place_over(refusal(a), place);
-    }
-    let p = a.profile;
+    let p = match profile::read(profile) {
+        Ok(p) => p,
+        Err(refusal) => return place_over(Err(refusal), place),
+    };
     place_over(
         sending::send_symbol(p, data, symbol, firsts, seconds),
         place,
@@ -68,8 +70,7 @@ fn hand_over(receipt: Receipt, lost: &mut u16, reasons: &mut [u8; 16], place: &m
 {
     *place = receipt.place;
     *lost = receipt.lost;
-    let each = receipt.reasons;
-    *reasons = each;
+    *reasons = receipt.reasons;
     receipt.number
 }
 
@@ -85,11 +86,10 @@ pub fn flo_receive(
 ) -> u32
     ensures { FloReceive profile.now marks firsts.now seconds.now «data».old «data».new lost.new reasons.new (record { number = result; place = place.new }) }
 {
-    let a = profile::read(profile);
-    if a.number != 0 {
-        return hand_over(receiving::silence(refusal(a)), lost, reasons, place);
-    }
-    let p = a.profile;
+    let p = match profile::read(profile) {
+        Ok(p) => p,
+        Err(refusal) => return hand_over(Receipt::from(refusal), lost, reasons, place),
+    };
     hand_over(
         receiving::receive(p, marks, firsts, seconds, data),
         lost,
@@ -107,11 +107,10 @@ pub fn flo_feed(
 ) -> u32
     ensures { FloFeed profile.now firsts.now seconds.now state.old state.new (record { number = result; place = place.new }) }
 {
-    let a = profile::read(profile);
-    if a.number != 0 {
-        return place_over(refusal(a), place);
-    }
-    let p = a.profile;
+    let p = match profile::read(profile) {
+        Ok(p) => p,
+        Err(refusal) => return place_over(Err(refusal), place),
+    };
     place_over(receiving::feed(p, state, firsts, seconds), place)
 }
 
@@ -126,11 +125,10 @@ pub fn flo_ask(
 ) -> u32
     ensures { FloAsk profile.now marks state.now «data».old «data».new lost.new reasons.new (record { number = result; place = place.new }) }
 {
-    let a = profile::read(profile);
-    if a.number != 0 {
-        return hand_over(receiving::silence(refusal(a)), lost, reasons, place);
-    }
-    let p = a.profile;
+    let p = match profile::read(profile) {
+        Ok(p) => p,
+        Err(refusal) => return hand_over(Receipt::from(refusal), lost, reasons, place),
+    };
     hand_over(receiving::ask(p, marks, state, data), lost, reasons, place)
 }
 
@@ -146,18 +144,17 @@ pub fn flo_read_profile(
 ) -> u32
     ensures { FloReadProfile profile.now masks.new level.new mode.new k.new seeds.new floor.new (record { number = result; place = place.new }) }
 {
-    let a = profile::read(profile);
-    let p = a.profile;
-    let m = p.masks;
-    *masks = m;
+    let (p, ended) = match profile::read(profile) {
+        Ok(p) => (p, Ok(())),
+        Err(refusal) => (profile::blank(), Err(refusal)),
+    };
+    *masks = p.masks;
     *level = p.level;
     *mode = p.mode;
     *k = p.k;
-    let s = p.seeds;
-    *seeds = s;
+    *seeds = p.seeds;
     *floor = p.floor;
-    *place = a.place;
-    a.number
+    place_over(ended, place)
 }
 
 pub fn flo_write_profile(
@@ -173,27 +170,29 @@ pub fn flo_write_profile(
 ) -> u32
     ensures { FloWriteProfile masks.now level mode k seeds.now floor profile.new count.new (record { number = result; place = place.new }) }
 {
-    let m = *masks;
-    let s = *seeds;
-    let a = profile::write(Profile {
-        masks: m,
+    let (bytes, n, ended) = match profile::write(Profile {
+        masks: *masks,
         level,
         mode,
         k,
-        seeds: s,
+        seeds: *seeds,
         floor,
-    });
-    let bytes = a.bytes;
+    }) {
+        Ok(w) => (w.bytes, w.count, Ok(())),
+        Err(refusal) => ([0u8; 252], 0, Err(refusal)),
+    };
     *profile = bytes;
-    *count = a.count;
-    *place = a.place;
-    a.number
+    *count = n;
+    place_over(ended, place)
 }
 
 pub fn flo_parity(k: u8, block: &mut [u8]) -> u32
     ensures { FloParity k block.old block.new result }
 {
-    outer::number(outer::fill_parity(k, block))
+    match outer::fill_parity(k, block) {
+        Ok(()) => 0,
+        Err(e) => e.number(),
+    }
 }
 
 pub fn flo_compare(
@@ -206,22 +205,21 @@ pub fn flo_compare(
 ) -> u32
     ensures { FloCompare firsts_a.now seconds_a.now firsts_b.now seconds_b.now differences.old differences.new count.new result }
 {
-    let answer = comparing::compare(firsts_a, seconds_a, firsts_b, seconds_b, differences);
-    *count = answer.count;
-    answer.number
+    let compared = comparing::compare(firsts_a, seconds_a, firsts_b, seconds_b, differences);
+    *count = compared.unwrap_or(0);
+    number_of(compared)
 }
 
 pub fn flo_add(totals: &mut [u64], number: u32, lost: u16, reasons: &[u8; 16]) -> u32
     ensures { FloAdd totals.old number lost reasons.now totals.new result }
 {
-    let given = *reasons;
-    adding::add_to(
+    number_of(adding::add_to(
         totals,
         Receipt {
             number,
             place: 0,
             lost,
-            reasons: given,
+            reasons: *reasons,
         },
-    )
+    ))
 }

@@ -1,6 +1,7 @@
 // Judging what a grid's cells decide to: the block's bits, unscrambling, the packets one by one, and what the outer code makes of them.
 ghost use Rattle.std.specs.Prelude.{◌≡◌, ◌*◌, T, length};
 ghost use Rattle.rules.specs.Bits.{row};
+ghost use Rattle.rules.specs.Answers.{answer_of};
 ghost use Rattle.rules.specs.Outer.{is_k, column};
 ghost use Rattle.rules.specs.Modes.{symbols};
 ghost use Rattle.rules.specs.Profile.{faultless};
@@ -10,30 +11,28 @@ ghost use Rattle.receiving.specs.Steps.{KeptBits};
 
 use block::scramble;
 use modes::block_bits;
-use rules::{Profile, Receipt};
-
-fn copy(from: &[u8], to: &mut [u8])
-    requires { length from.now ≡ length to.old }
-    ensures { to.new ≡ from.now }
-{
-    for i in 0..from.len() {
-        to[i] = from[i];
-    }
-}
+use rules::{Profile, Receipt, Refusal};
 
 // Restores the lost packets and writes the data, or answers why not.
-fn deliver(k: u8, lost: u16, block: [u8; 1952], data: &mut [u8]) -> u32
+fn deliver(k: u8, lost: u16, block: [u8; 1952], data: &mut [u8]) -> Result<(), Refusal>
     requires { T (is_k k) × (length «data».old ≡ 122 * k) }
-    ensures { Delivered k lost (λ p j. column block j p) «data».old «data».new result }
+    ensures { Delivered k lost (λ p j. column block j p) «data».old «data».new (answer_of result).number }
 {
     let mut whole = block;
-    let number = outer::number(outer::restore(k, lost, &mut whole));
-    if number != 0 {
-        return number;
-    }
+    outer::restore(k, lost, &mut whole)?;
     let n = data.len();
-    copy(&whole[..n], data);
-    0
+    data.copy_from_slice(&whole[..n]);
+    Ok(())
+}
+
+// The number of an answer that names no fault of the profile.
+fn number(delivered: Result<(), Refusal>) -> u32
+    ensures { result ≡ (answer_of delivered).number }
+{
+    match delivered {
+        Ok(()) => 0,
+        Err(refusal) => refusal.number(),
+    }
 }
 
 // Judges a block's bits, still scrambled, and delivers the data.
@@ -44,13 +43,11 @@ fn judge(p: Profile, marks: u16, bits: [u8; 48000], data: &mut [u8]) -> Receipt
     let mut plain = bits;
     scramble(p, &mut plain);
     let v = turbo::judge_block(p.mode, marks, plain);
-    let block = v.block;
-    let reasons = v.reasons;
     Receipt {
-        number: deliver(p.k, v.lost, block, data),
+        number: number(deliver(p.k, v.lost, v.block, data)),
         place: 0,
         lost: v.lost,
-        reasons,
+        reasons: v.reasons,
     }
 }
 
@@ -61,7 +58,7 @@ fn kept_bits(mode: u8, cells: &[u8]) -> [u8; 48000]
 {
     let n = block_bits(mode);
     let mut bits = [0u8; 48000];
-    hearing::read_block(mode, cells, &mut bits[..n]);
+    hearing::read_block(mode, cells, &mut bits[..n]).unwrap();
     bits
 }
 

@@ -1,33 +1,21 @@
 // The state that pieces of a grid leave: how many cells have come, and a byte for each cell.
-ghost use Rattle.std.specs.Prelude.{◌≡◌, ◌⊎◌, ◌+◌, ◌*◌, ◌<◌, ◌≤◌, length};
+ghost use Rattle.std.specs.Prelude.{◌≡◌, false, ◌+◌, ◌*◌, ◌<◌, ◌≤◌, T, length, IfOk, IfErr};
+ghost use Rattle.rules.specs.Answers.{answer_of};
 ghost use Rattle.rules.specs.Modes.{part_bits};
 ghost use Rattle.rules.specs.Pieces as rule;
 ghost use Rattle.rules.specs.Pieces.{state_bytes, is_state, Put};
+ghost use Rattle.rules.specs.declared.Refusal.TheVariants.{NoSuchState};
 ghost use Rattle.receiving.specs.Steps.{Largest};
 
 use modes::symbol_count;
-use profile::only;
-use rules::{Answer, Profile};
+use rules::{Profile, Refusal};
 
-// Two bytes as a number, high byte first.
-fn pair(high: u8, low: u8) -> usize
-    ensures { (result ≡ 256 * high + low) × (result < 65536) }
-{
-    256 * (high as usize) + low as usize
-}
-
-// How many cells have come.
+// How many cells have come, high byte first.
 fn seen(state: &[u8]) -> usize
     requires { 2 ≤ length state.now }
     ensures { (result ≡ rule.seen state.now) × (result < 65536) }
 {
-    pair(state[0], state[1])
-}
-
-fn larger(a: u8, b: u8) -> u8
-    ensures { (a ≤ result) × (b ≤ result) × ((result ≡ a) ⊎ (result ≡ b)) }
-{
-    if a > b { a } else { b }
+    u16::from_be_bytes([state[0], state[1]]) as usize
 }
 
 // The largest byte, 0 of none: one test then holds for all of them. It is a maximum, and not a search, so that it is worked out many bytes at a time.
@@ -35,8 +23,8 @@ fn largest(bytes: &[u8]) -> u8
     ensures { Largest bytes.now result }
 {
     let mut most: u8 = 0;
-    for i in 0..bytes.len() {
-        most = larger(most, bytes[i]);
+    for b in bytes {
+        most = most.max(*b);
     }
     most
 }
@@ -56,70 +44,51 @@ fn is_state(mode: u8, state: &[u8]) -> bool
         return false;
     }
     let n = seen(state);
-    if n > 4096 * symbol_count(mode) {
-        return false;
-    }
-    if largest(&state[2..2 + n]) > most_byte(mode) {
-        return false;
-    }
-    if largest(&state[2 + n..]) > 0 {
-        return false;
-    }
-    true
+    n <= 4096 * symbol_count(mode)
+        && largest(&state[2..2 + n]) <= most_byte(mode)
+        && largest(&state[2 + n..]) == 0
 }
 
-// 22, 7, 16, the first that fits, else 0.
-fn feeding_number(mode: u8, state: &[u8], firsts: usize, seconds: usize) -> u32
-    ensures { result ≡ rule.feeding_number mode state.now firsts seconds }
+// How many cells have come, where pieces of a grid of the mode leave this state.
+fn come(mode: u8, state: &[u8]) -> Result<usize, Refusal>
+    ensures state { IfOk result (λ n. T (is_state mode state.now) × (n ≡ rule.seen state.now)) }
+    ensures no_state { IfErr result (λ e. (e ≡ NoSuchState) × (is_state mode state.now ≡ false)) }
 {
-    if !is_state(mode, state) {
-        return 22;
+    if is_state(mode, state) {
+        Ok(seen(state))
+    } else {
+        Err(Refusal::NoSuchState)
     }
+}
+
+// What is at fault in the profile, 22, 7, 16, the first that fits.
+pub(crate) fn feeding(p: Profile, state: &[u8], firsts: usize, seconds: usize) -> Result<(), Refusal>
+    ensures { answer_of result ≡ rule.feeding p state.now firsts seconds }
+{
+    profile::fault(p)?;
+    let come = come(p.mode, state)?;
     if firsts != seconds {
-        return 7;
+        return Err(Refusal::WrongCells);
     }
-    if firsts > 4096 * symbol_count(mode) - seen(state) {
-        return 16;
+    if firsts > 4096 * symbol_count(p.mode) - come {
+        return Err(Refusal::PastEnd);
     }
-    0
+    Ok(())
 }
 
-// What is at fault in the profile, 22, 7, 16, the first that fits, else 0.
-pub(crate) fn feeding(p: Profile, state: &[u8], firsts: usize, seconds: usize) -> Answer
-    ensures { result ≡ rule.feeding p state.now firsts seconds }
+// What is at fault in the profile, 22, 6, 17, the first that fits.
+pub(crate) fn asking(p: Profile, state: &[u8], bytes: usize) -> Result<(), Refusal>
+    ensures { answer_of result ≡ rule.asking p state.now bytes }
 {
-    let a = profile::fault(p);
-    if a.number != 0 {
-        return a;
+    profile::fault(p)?;
+    let come = come(p.mode, state)?;
+    if bytes != 122 * (p.k as usize) {
+        return Err(Refusal::WrongData);
     }
-    only(feeding_number(p.mode, state, firsts, seconds))
-}
-
-// 22, 6, 17, the first that fits, else 0.
-fn asking_number(mode: u8, k: u8, state: &[u8], bytes: usize) -> u32
-    ensures { result ≡ rule.asking_number mode k state.now bytes }
-{
-    if !is_state(mode, state) {
-        return 22;
+    if come < 4096 * symbol_count(p.mode) {
+        return Err(Refusal::Unfinished);
     }
-    if bytes != 122 * (k as usize) {
-        return 6;
-    }
-    if seen(state) < 4096 * symbol_count(mode) {
-        return 17;
-    }
-    0
-}
-
-// What is at fault in the profile, 22, 6, 17, the first that fits, else 0.
-pub(crate) fn asking(p: Profile, state: &[u8], bytes: usize) -> Answer
-    ensures { result ≡ rule.asking p state.now bytes }
-{
-    let a = profile::fault(p);
-    if a.number != 0 {
-        return a;
-    }
-    only(asking_number(p.mode, p.k, state, bytes))
+    Ok(())
 }
 
 // Puts the bytes of a piece's cells after those that have come, and counts them.
@@ -136,7 +105,7 @@ pub(crate) fn put(p: Profile, state: &mut [u8], firsts: &[f32], seconds: &[f32])
         firsts,
         seconds,
         &mut state[2 + from..2 + end],
-    );
-    state[0] = (end / 256) as u8;
-    state[1] = (end % 256) as u8;
+    )
+    .unwrap();
+    state[..2].copy_from_slice(&(end as u16).to_be_bytes());
 }

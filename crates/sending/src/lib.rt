@@ -3,6 +3,7 @@
 
 ghost use Rattle.std.specs.Prelude.{◌≡◌, ℕ, ◌+◌, ◌*◌, ◌/◌, ◌%◌, ◌<◌, T, length};
 ghost use Rattle.rules.specs.Bits.{row};
+ghost use Rattle.rules.specs.Answers.{answer_of};
 ghost use Rattle.rules.specs.Outer.{is_k};
 ghost use Rattle.rules.specs.Modes.{slots, slot_bits, symbols};
 ghost use Rattle.rules.specs.Profile.{faultless};
@@ -11,8 +12,7 @@ ghost use Rattle.sending.specs.Steps.{Grid};
 
 use block::{early, scramble};
 use modes::{block_bits, symbol_count};
-use profile::only;
-use rules::{Answer, Profile};
+use rules::{Profile, Refusal};
 
 // The block's 16 packets of 122 bytes, packet after packet: the data, and its parity.
 fn block_of(k: u8, data: &[u8]) -> [u8; 1952]
@@ -20,10 +20,8 @@ fn block_of(k: u8, data: &[u8]) -> [u8; 1952]
     ensures { (p j : ℕ) → p < 16 → j < 122 → row result (122 * p + j) ≡ packet k «data».now p j }
 {
     let mut block = [0u8; 1952];
-    for i in 0..data.len() {
-        block[i] = data[i];
-    }
-    outer::fill_parity(k, &mut block);
+    block[..data.len()].copy_from_slice(data);
+    outer::fill_parity(k, &mut block).unwrap();
     block
 }
 
@@ -56,29 +54,32 @@ fn write_grid(mode: u8, level: f32, bits: &[u8], firsts: &mut [f32], seconds: &m
             y,
             &mut firsts[at..end],
             &mut seconds[at..end],
-        );
+        )
+        .unwrap();
     }
 }
 
 // Fills the whole grid.
-pub fn send(p: Profile, data: &[u8], firsts: &mut [f32], seconds: &mut [f32]) -> Answer
-    ensures { SendRule p «data».now firsts.old seconds.old firsts.new seconds.new result }
+pub fn send(
+    p: Profile,
+    data: &[u8],
+    firsts: &mut [f32],
+    seconds: &mut [f32],
+) -> Result<(), Refusal>
+    ensures { SendRule p «data».now firsts.old seconds.old firsts.new seconds.new (answer_of result) }
 {
     let mode = p.mode;
-    let a = early(
+    early(
         p,
         data.len(),
         firsts.len(),
         seconds.len(),
         4096 * symbol_count(mode),
-    );
-    if a.number != 0 {
-        return a;
-    }
+    )?;
     let bits = sent_bits(p, data);
     let n = block_bits(mode);
     write_grid(mode, p.level, &bits[..n], firsts, seconds);
-    a
+    Ok(())
 }
 
 // Fills two lists of 4096 with one symbol's cells.
@@ -88,19 +89,16 @@ pub fn send_symbol(
     symbol: usize,
     firsts: &mut [f32],
     seconds: &mut [f32],
-) -> Answer
-    ensures { SendSymbolRule p «data».now symbol firsts.old seconds.old firsts.new seconds.new result }
+) -> Result<(), Refusal>
+    ensures { SendSymbolRule p «data».now symbol firsts.old seconds.old firsts.new seconds.new (answer_of result) }
 {
     let mode = p.mode;
-    let a = early(p, data.len(), firsts.len(), seconds.len(), 4096);
-    if a.number != 0 {
-        return a;
-    }
+    early(p, data.len(), firsts.len(), seconds.len(), 4096)?;
     if symbol >= symbol_count(mode) {
-        return only(8);
+        return Err(Refusal::OutsideGrid);
     }
     let bits = sent_bits(p, data);
     let n = block_bits(mode);
-    cells::write_symbol(mode, p.level, &bits[..n], symbol, firsts, seconds);
-    only(0)
+    cells::write_symbol(mode, p.level, &bits[..n], symbol, firsts, seconds).unwrap();
+    Ok(())
 }
