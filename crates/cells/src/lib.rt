@@ -1,7 +1,7 @@
 // Points and cells: what each cell carries, and one symbol's cells written from a block's bits.
 #![tactic(auto)]
 
-ghost use Rattle.std.specs.Prelude.{◌≡◌, true, [], ◌∷◌, ◌+◌, ◌*◌, ◌<◌, ◌≤◌, eqb, ltb, length};
+ghost use Rattle.std.specs.Prelude.{◌≡◌, true, [], ◌∷◌, ◌+◌, ◌*◌, ◌<◌, ◌≤◌, eqb, ltb, length, is_ok};
 ghost use Rattle.rules.specs.Bits.{pick, row};
 ghost use Rattle.rules.specs.Modes.{part_bits, slots, slot_bits, symbols};
 ghost use Rattle.rules.specs.Points as points;
@@ -13,7 +13,7 @@ ghost use Rattle.cells.specs.Symbol as symbolRule;
 ghost use Rattle.cells.specs.Symbol.{Signed, level_of, Sized, inner_of, symbol_cell, Written, WriteRule};
 
 use order::points;
-use rules::{Carried, Cell, Point};
+use rules::{Cell, Misfit, Point, PointOf};
 
 // Where a cell is: in no interlace, or at a place of interlace k.
 #[derive(Clone, Copy)]
@@ -139,40 +139,43 @@ fn spot_of(c: usize) -> Spot
 }
 
 // What interlace k carries at a place, in a mode that has n slots.
-fn carried_at(points: &[u16], mode: u8, n: usize, symbol: usize, k: usize, place: usize) -> Carried
+fn carried_at(points: &[u16], mode: u8, n: usize, symbol: usize, k: usize, place: usize) -> Option<PointOf>
     requires { Points points.now × (n ≡ slots mode) × (symbol < 4096) × (k < 8) × (place < 500) }
     ensures { result ≡ rule.carried_at mode symbol (rule.place k place) }
 {
     let slot = slot_of(symbol, k);
     if slot == 0 {
-        return Carried::Nothing;
+        return None;
     }
     let t = 7 * symbol + slot - 1;
     if t < n {
-        return Carried::PointOf(t, point_at(points, place));
+        return Some(PointOf {
+            slot: t,
+            point: point_at(points, place),
+        });
     }
-    Carried::Nothing
+    None
 }
 
 // What cell c of a symbol carries.
-fn carried_in(points: &[u16], mode: u8, n: usize, symbol: usize, c: usize) -> Carried
+fn carried_in(points: &[u16], mode: u8, n: usize, symbol: usize, c: usize) -> Option<PointOf>
     requires { Points points.now × (n ≡ slots mode) × (symbol < 4096) }
     ensures { result ≡ rule.carried mode symbol c }
 {
     match spot_of(c) {
-        Spot::Outside => Carried::Nothing,
+        Spot::Outside => None,
         Spot::Place(k, place) => carried_at(points, mode, n, symbol, k, place),
     }
 }
 
 // The same for any symbol: those after the grid's last carry nothing.
-pub fn carried(mode: u8, symbol: usize, c: usize) -> Carried
+pub fn carried(mode: u8, symbol: usize, c: usize) -> Option<PointOf>
     ensures { result ≡ rule.carried mode symbol c }
 {
     if in_grid(mode, symbol) {
         return carried_in(&points(), mode, modes::slot_count(mode), symbol, c);
     }
-    Carried::Nothing
+    None
 }
 
 // Where the bits of point i of block slot t begin in a block. A slot has so many bits, and a point so many.
@@ -201,9 +204,9 @@ fn cell_by(
     ensures { result ≡ symbol_cell mode (level_of signed.now) bits.now symbol c }
 {
     match carried_in(points, mode, n, symbol, c) {
-        Carried::Nothing => Cell::Silent,
-        Carried::PointOf(t, i) => {
-            let at = first_bit(mode, slot, 2 * w, t, i);
+        None => Cell::Silent,
+        Some(p) => {
+            let at = first_bit(mode, slot, 2 * w, p.slot, p.point);
             Cell::Carries(point_by(signed, sized, w, bits, at))
         }
     }
@@ -264,7 +267,7 @@ fn write_cells(
     }
 }
 
-// One symbol's cells. Answers whether they were written.
+// One symbol's cells, where it can be written; else nothing is.
 pub fn write_symbol(
     mode: u8,
     level: f32,
@@ -272,13 +275,13 @@ pub fn write_symbol(
     symbol: usize,
     firsts: &mut [f32],
     seconds: &mut [f32],
-) -> bool
+) -> Result<(), Misfit>
     ensures { WriteRule mode level bits.now symbol
-        firsts.old seconds.old firsts.new seconds.new result }
+        firsts.old seconds.old firsts.new seconds.new (is_ok result) }
 {
     if !fitting(mode, symbol, bits.len(), firsts.len(), seconds.len()) {
-        return false;
+        return Err(Misfit);
     }
     write_cells(mode, level, bits, symbol, firsts, seconds);
-    true
+    Ok(())
 }

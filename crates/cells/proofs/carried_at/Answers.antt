@@ -3,8 +3,7 @@ use mathlib.Core.Path.{sym, ◌∙◌, ap}
 use Prim.Native.Nat.{ℕ, ◌+◌, ◌-◌, ◌*◌}
 use native.Mathlib.Omega.{arith}
 use Rattle.rules.specs.Cells.{point_at, slot_of}
-use Rattle.rules.specs.declared.Carried.TheVariants.{PointOf}
-use Rattle.cells.proofs.Inverse.{served, served-none, served-past, served-point}
+use Rattle.cells.proofs.Inverse.{some_point, served, served-none, served-past, served-point}
 use Rattle.cells.proofs.carried_at.Goals as goal
 
 pub returns-then-slot-eq0 : goal.returns-then-slot-eq0
@@ -16,7 +15,7 @@ pub returns-then-t-n : goal.returns-then-t-n
 returns-then-t-n c =
     let a = c.args in
     let s = c.slot_of-slot in
-    ap (PointOf (7 * a.symbol + s.result - 1)) c.point_at.ensures.0
+    ap (some_point (7 * a.symbol + s.result - 1)) c.point_at.ensures.0
     ∙ sym (served-point a.mode a.symbol s.result (point_at a.place) c.if-slot-eq0.false (omega arith))
     ∙ ap (λ (n : ℕ). served a.mode a.symbol n (point_at a.place)) s.ensures.0
 
