@@ -25,6 +25,7 @@ impl Order for PointAt {
     ghost rule = { point_at };
 }
 
+#[derive(Drop)]
 pub struct Table<O: Order> {
     numbers: [u16; 500],
     order: PhantomData<O>,
