@@ -14,8 +14,8 @@ use Rattle.rules.specs.Modes.{slots, symbols}
 use Rattle.rules.specs.Slots.{symbol_of, slot_number}
 use Rattle.rules.specs.Cells.{place_of, point_at, interlace_of, slot_of, cell_of, point_cell}
 use Rattle.rules.specs.Cells.{Belongs, outside, place, belongs, carried_by, carried_at, carried}
-use Rattle.rules.specs.declared.Carried.{Carried}
-use Rattle.rules.specs.declared.Carried.TheVariants.{Nothing, PointOf}
+use Rattle.std.specs.Prelude.{Option, Some, None}
+use Rattle.rules.specs.declared.PointOf.{PointOf}
 use Rattle.rules.proofs.Tables.{order, back, inverse, places-checked}
 use lib.ListN.{get_or}
 use Rattle.laws.specs.Every.{every-at, first-at}
@@ -174,20 +174,36 @@ module _ (c k i : ℕ) (e : belongs c ≡ place k i) where
 
 -- ---- point i of slot number s, 0 for none, of symbol y
 
-abbrev pub served : ℕ → ℕ → ℕ → ℕ → Carried
-served m y s i = pick (eqb s 0) Nothing (carried_by m (7 * y + s - 1) i)
+-- a cell that carries that point
+abbrev pub some_point : ℕ → ℕ → Option PointOf
+some_point t i = Some (record { slot = t; point = i })
+
+abbrev slot_in : Option PointOf → ℕ
+slot_in None = 0
+slot_in (Some p) = p.slot
+
+abbrev point_in : Option PointOf → ℕ
+point_in None = 0
+point_in (Some p) = p.point
+
+-- no other point is the same
+same_point : (t i u j : ℕ) → some_point t i ≡ some_point u j → (t ≡ u) × (i ≡ j)
+same_point t i u j e = (ap slot_in e, ap point_in e)
+
+abbrev pub served : ℕ → ℕ → ℕ → ℕ → Option PointOf
+served m y s i = pick (eqb s 0) None (carried_by m (7 * y + s - 1) i)
 
 module _ (m y s i : ℕ) where
-  pub served-none : s ≡ 0 → served m y s i ≡ Nothing
+  pub served-none : s ≡ 0 → served m y s i ≡ None
   served-none z = simp (eq-eqb s 0 z)
 
-  pub served-past : ¬ (s ≡ 0) → slots m ≤ 7 * y + s - 1 → served m y s i ≡ Nothing
+  pub served-past : ¬ (s ≡ 0) → slots m ≤ 7 * y + s - 1 → served m y s i ≡ None
   served-past z h = simp (ne_eqb s 0 z, le-ltb (7 * y + s - 1) (slots m) h)
 
-  pub served-point : ¬ (s ≡ 0) → 7 * y + s - 1 < slots m → served m y s i ≡ PointOf (7 * y + s - 1) i
+  pub served-point : ¬ (s ≡ 0) → 7 * y + s - 1 < slots m → served m y s i ≡ some_point (7 * y + s - 1) i
   served-point z h = simp (ne_eqb s 0 z, lt-ltb (7 * y + s - 1) (slots m) h)
 
-  point-served : (t j : ℕ) → served m y s i ≡ PointOf t j → ¬ (s ≡ 0) × (7 * y + s - 1 ≡ t) × (i ≡ j) × (t < slots m)
+  point-served : (t j : ℕ) → served m y s i ≡ some_point t j → ¬ (s ≡ 0) × (7 * y + s - 1 ≡ t) × (i ≡ j) × (t < slots m)
   point-served t j e = go (ℕ_discrete s 0) (dec_lt (7 * y + s - 1) (slots m))
     where
       go : Dec (s ≡ 0) → Dec (7 * y + s - 1 < slots m) → ¬ (s ≡ 0) × (7 * y + s - 1 ≡ t) × (i ≡ j) × (t < slots m)
@@ -195,8 +211,8 @@ module _ (m y s i : ℕ) where
       go (no z) (no h) = let o = served-past z (omega arith) in let q : ◌≡◌ {A = ℕ} 0 1 = cc in absurd (omega arith)
       go (no z) (yes h) =
           let o = served-point z h in
-          let q : 7 * y + s - 1 ≡ t = cc in
-          (z, q, (cc), rw q at h)
+          let q = same_point (7 * y + s - 1) i t j (sym o ∙ e) in
+          (z, q.0, q.1, rw q.0 at h)
 
 -- ---- the cell of a point carries just that point, and the point that a cell carries has that cell
 
@@ -216,7 +232,7 @@ there t i h =
 pub point-cell-lt : (t i : ℕ) → i < 500 → point_cell t i < 4096
 point-cell-lt t i h = (there t i h).1
 
-pub carried-cell : (m t i : ℕ) → t < slots m → i < 500 → carried m (symbol_of t) (point_cell t i) ≡ PointOf t i
+pub carried-cell : (m t i : ℕ) → t < slots m → i < 500 → carried m (symbol_of t) (point_cell t i) ≡ some_point t i
 unfolding carried
 carried-cell m t i h i<500 =
     let y = symbol_of t in
@@ -225,13 +241,13 @@ carried-cell m t i h i<500 =
     ap (carried_at m y) (there t i i<500).0
     ∙ ap₂ (served m y) (slot-interlace y s (slot-number t).0 (slot-number t).1) (place-point i i<500)
     ∙ served-point m y s i (omega arith) (rw back h)
-    ∙ ap (λ (u : ℕ). PointOf u i) back
+    ∙ ap (λ (u : ℕ). some_point u i) back
 
-pub cell-carried : (m y c t i : ℕ) → carried m y c ≡ PointOf t i → (t < slots m) × (i < 500) × (symbol_of t ≡ y) × (point_cell t i ≡ c)
+pub cell-carried : (m y c t i : ℕ) → carried m y c ≡ some_point t i → (t < slots m) × (i < 500) × (symbol_of t ≡ y) × (point_cell t i ≡ c)
 unfolding carried
 cell-carried m y c t i e = go (belongs c) refl e
   where
-    go : (b : Belongs) → belongs c ≡ b → carried_at m y b ≡ PointOf t i → (t < slots m) × (i < 500) × (symbol_of t ≡ y) × (point_cell t i ≡ c)
+    go : (b : Belongs) → belongs c ≡ b → carried_at m y b ≡ some_point t i → (t < slots m) × (i < 500) × (symbol_of t ≡ y) × (point_cell t i ≡ c)
     go outside p q = let z : ◌≡◌ {A = ℕ} 0 1 = cc in absurd (omega arith)
     go (place k j) p q =
         let a = cell-belongs c k j p in
@@ -245,15 +261,15 @@ cell-carried m y c t i e = go (belongs c) refl e
         )
 
 -- the symbols after the grid's last carry nothing
-pub carried-past : (m y c : ℕ) → symbols m ≤ y → carried m y c ≡ Nothing
+pub carried-past : (m y c : ℕ) → symbols m ≤ y → carried m y c ≡ None
 unfolding carried
 carried-past m y c h = go (belongs c)
   where
-    past : (s i : ℕ) → Dec (s ≡ 0) → served m y s i ≡ Nothing
+    past : (s i : ℕ) → Dec (s ≡ 0) → served m y s i ≡ None
     past s i (yes z) = served-none m y s i z
     past s i (no z) = served-past m y s i z (omega arith)
 
-    go : (b : Belongs) → carried_at m y b ≡ Nothing
+    go : (b : Belongs) → carried_at m y b ≡ None
     go outside = refl
     go (place k i) = past (slot_of y k) (point_at i) (ℕ_discrete (slot_of y k) 0)
 
@@ -267,5 +283,4 @@ pub points-apart : (m t u i j : ℕ)
     → point_cell t i ≡ point_cell u j
     → (t ≡ u) × (i ≡ j)
 points-apart m t u i j ht hu hi hj e p =
-    let q : PointOf t i ≡ PointOf u j = sym (carried-cell m t i ht hi) ∙ ap₂ (carried m) e p ∙ carried-cell m u j hu hj in
-    ((cc), (cc))
+    same_point t i u j (sym (carried-cell m t i ht hi) ∙ ap₂ (carried m) e p ∙ carried-cell m u j hu hj)

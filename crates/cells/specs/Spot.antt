@@ -1,8 +1,8 @@
 -- The code's word for where a cell is, as the rules have it.
+use Rattle.std.specs.Prelude.{Option, Some, None}
 use Rattle.rules.specs.Cells.{Belongs, outside, place}
-use Rattle.cells.specs.declared.Spot.{Spot}
-use Rattle.cells.specs.declared.Spot.TheVariants.{Outside, Place}
+use Rattle.cells.specs.declared.spot.Spot.{Spot}
 
-abbrev pub belonging : Spot → Belongs
-belonging Outside = outside
-belonging (Place k i) = place k i
+abbrev pub belonging : Option Spot → Belongs
+belonging None = outside
+belonging (Some s) = place s.interlace s.place

@@ -12,15 +12,9 @@ use Rattle.laws.specs.Holds.{Holds}
 abbrev pub Signed : Float → List Float → Type 0
 Signed level l = Holds zero_part 256 (λ b. signed b level) l
 
-abbrev pub level_of : List Float → Float
-level_of l = get_or l 0 zero_part
-
 -- the parts that two bits make, by twice the size bit and the sign bit; bits 1 and 0 make the level
 abbrev pub Sized : Float → List Float → Type 0
 Sized level l = Holds zero_part 4 (λ k. signed (k % 2) (sized (k / 2) level)) l
-
-abbrev pub inner_of : List Float → Float
-inner_of l = get_or l 2 zero_part
 
 -- a block's bits as a list, slot after slot
 abbrev pub slot_bit : ℕ → List ℕ → ℕ → ℕ → ℕ

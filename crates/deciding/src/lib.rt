@@ -1,7 +1,7 @@
 // What a part, a point and each cell of a list decide to.
 #![tactic(auto)]
 
-ghost use Rattle.std.specs.Prelude.{◌≡◌, ◌*◌, ◌<◌, ◌≤◌, Float, length, get_or};
+ghost use Rattle.std.specs.Prelude.{◌≡◌, ◌*◌, ◌<◌, ◌≤◌, Float, length, get_or, is_ok};
 ghost use Rattle.rules.specs.Modes.{part_bits};
 ghost use Rattle.rules.specs.Points as points;
 ghost use Rattle.rules.specs.Points.{zero_part};
@@ -9,7 +9,7 @@ ghost use Rattle.rules.specs.Pieces.{cell_byte};
 ghost use Rattle.laws.specs.Holds.{Holds};
 ghost use Rattle.deciding.specs.Deciding.{sign_or, byte_of, DecideRule};
 
-use rules::Point;
+use rules::{Misfit, Point};
 
 // The numbers that a point's two parts decide to.
 #[derive(Clone, Copy)]
@@ -125,7 +125,7 @@ fn decide_sizes(level: f32, floor: f32, firsts: &[f32], seconds: &[f32], out: &m
     }
 }
 
-// Answers whether the lists are of one length; else nothing is written.
+// Where the lists are not of one length nothing is written.
 pub fn decide_cells(
     mode: u8,
     level: f32,
@@ -133,19 +133,19 @@ pub fn decide_cells(
     firsts: &[f32],
     seconds: &[f32],
     out: &mut [u8],
-) -> bool
-    ensures { DecideRule mode level floor firsts.now seconds.now out.old out.new result }
+) -> Result<(), Misfit>
+    ensures { DecideRule mode level floor firsts.now seconds.now out.old out.new (is_ok result) }
 {
     if firsts.len() != out.len() {
-        return false;
+        return Err(Misfit);
     }
     if seconds.len() != out.len() {
-        return false;
+        return Err(Misfit);
     }
     if modes::part_bits(mode) == 1 {
         decide_signs(floor, firsts, seconds, out);
-        return true;
+        return Ok(());
     }
     decide_sizes(level, floor, firsts, seconds, out);
-    true
+    Ok(())
 }

@@ -18,11 +18,11 @@ use Rattle.rules.specs.Cells.{point_cell, grid_cell, carried}
 use Rattle.rules.specs.Block.{cell_for, heard, part_of}
 use Rattle.rules.specs.declared.Profile.{Profile}
 use Rattle.rules.specs.declared.Cell.{Cell}
-use Rattle.rules.specs.declared.Carried.{Carried}
-use Rattle.rules.specs.declared.Carried.TheVariants.{PointOf}
+use Rattle.std.specs.Prelude.{Option}
+use Rattle.rules.specs.declared.PointOf.{PointOf}
 use Rattle.laws.specs.Decisions.{Good, decide-part}
 use Rattle.modes.proofs.Figures.{figures, part-bounds}
-use Rattle.cells.proofs.Inverse.{carried-cell}
+use Rattle.cells.proofs.Inverse.{some_point, carried-cell}
 use Rattle.hearing.proofs.Reading.{point-of-bit}
 
 -- a bit is decided to 0 or 1, or is doubtful
@@ -90,14 +90,14 @@ heard-sent P bits f s good hb hf hs t i ht hi = go (ℕ_discrete (n % 2) 0)
     whole : w * n + k ≡ i
     whole = div-add-mod i w
 
-    there : carried m (symbol_of t) (point_cell t j) ≡ PointOf t j
+    there : carried m (symbol_of t) (point_cell t j) ≡ some_point t j
     there = carried-cell m t j ht (point-of-bit m i hi)
 
     first : get_or f (grid_cell t j) zero_part ≡ part w level (λ b. bits t (2 * w * j + b))
-    first = hf t j ht (point-of-bit m i hi) ∙ ap (λ (c : Carried). first_part (cell_for w level bits c)) there
+    first = hf t j ht (point-of-bit m i hi) ∙ ap (λ (c : Option PointOf). first_part (cell_for w level bits c)) there
 
     second : get_or s (grid_cell t j) zero_part ≡ part w level (λ b. bits t (2 * w * j + (w + b)))
-    second = hs t j ht (point-of-bit m i hi) ∙ ap (λ (c : Carried). second_part (cell_for w level bits c)) there
+    second = hs t j ht (point-of-bit m i hi) ∙ ap (λ (c : Option PointOf). second_part (cell_for w level bits c)) there
 
     even : n % 2 ≡ 0 → 2 * w * j + k ≡ i
     even e = let twice : n ≡ 2 * j = omega arith in omega (arith, whole, ap (λ (x : ℕ). w * x) twice)

@@ -1,7 +1,7 @@
 // A block's bits read from what its cells decide to.
 #![tactic(auto)]
 
-ghost use Rattle.std.specs.Prelude.{◌≡◌, ◌*◌, ◌<◌, ◌≤◌, length};
+ghost use Rattle.std.specs.Prelude.{◌≡◌, ◌*◌, ◌<◌, ◌≤◌, length, is_ok};
 ghost use Rattle.rules.specs.Bits.{row};
 ghost use Rattle.rules.specs.Modes.{part_bits, slots, slot_bits, symbols};
 ghost use Rattle.rules.specs.Points.{bit_in};
@@ -12,6 +12,7 @@ ghost use Rattle.order.specs.Order.{Places};
 ghost use Rattle.hearing.specs.Reading.{point_byte, spread_bit, ReadRule};
 
 use order::places;
+use rules::Misfit;
 
 // The place of a point in its interlace.
 fn place_of(places: &[u16], point: usize) -> usize
@@ -121,15 +122,15 @@ fn read_slot(mode: u8, w: usize, t: usize, places: &[u16], cells: &[u8], bits: &
     spread_sizes(&bytes, bits);
 }
 
-// A block's bits from the bytes of the grid's cells. Answers whether there were as many cells and bits as the mode has; else nothing is written.
-pub fn read_block(mode: u8, cells: &[u8], bits: &mut [u8]) -> bool
-    ensures { ReadRule mode cells.now bits.old bits.new result }
+// A block's bits from the bytes of the grid's cells. Where there are not as many cells and bits as the mode has, nothing is written.
+pub fn read_block(mode: u8, cells: &[u8], bits: &mut [u8]) -> Result<(), Misfit>
+    ensures { ReadRule mode cells.now bits.old bits.new (is_ok result) }
 {
     if cells.len() != 4096 * modes::symbol_count(mode) {
-        return false;
+        return Err(Misfit);
     }
     if bits.len() != modes::block_bits(mode) {
-        return false;
+        return Err(Misfit);
     }
     let n = modes::slot_count(mode);
     let slot = modes::slot_bits(mode);
@@ -139,5 +140,5 @@ pub fn read_block(mode: u8, cells: &[u8], bits: &mut [u8]) -> bool
         let at = slot * t;
         read_slot(mode, w, t, &places, cells, &mut bits[at..at + slot]);
     }
-    true
+    Ok(())
 }

@@ -1,4 +1,4 @@
-// The figures of a transmission mode. A number that is no mode counts as 1.
+// The figures of a transmission mode. Kept as a number, and no enum: the contracts speak of every number, and one that is no mode counts as 1.
 #![tactic(auto)]
 
 ghost use Rattle.std.specs.Prelude.{◌≡◌, ◌*◌, ◌<◌, ◌≤◌};
@@ -18,18 +18,14 @@ pub fn is_mode(mode: u8) -> bool
 fn counted(mode: u8) -> usize
     ensures { (result ≡ counting.counted mode) × (result < 5) }
 {
-    if mode < 5 {
-        return mode as usize;
-    }
-    1
+    if is_mode(mode) { usize::from(mode) } else { 1 }
 }
 
 pub fn rate(mode: u8) -> Rate
     ensures { result ≡ rule.rate mode }
 {
     match counted(mode) {
-        0 => Rate::Third,
-        2 => Rate::Third,
+        0 | 2 => Rate::Third,
         4 => Rate::TwoThirds,
         _ => Rate::Half,
     }
@@ -39,10 +35,7 @@ pub fn rate(mode: u8) -> Rate
 pub fn part_bits(mode: u8) -> usize
     ensures { (result ≡ part_bits mode) × (1 ≤ result) × (result ≤ 2) }
 {
-    if counted(mode) < 2 {
-        return 1;
-    }
-    2
+    if counted(mode) < 2 { 1 } else { 2 }
 }
 
 // How many bits a slot has.

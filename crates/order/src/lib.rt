@@ -2,22 +2,19 @@
 // each call copies the table.
 #![tactic(auto)]
 
-ghost use Rattle.order.specs.Order.{Places, Points};
-
 mod place_table;
 mod point_table;
+mod table;
 
 use place_table::PLACES;
 use point_table::POINTS;
 
-pub fn places() -> [u16; 500]
-    ensures { Places result }
-{
-    PLACES
+pub use table::{Order, PlaceOf, PointAt, Table};
+
+pub fn places() -> Table<PlaceOf> {
+    Table::of(PLACES)
 }
 
-pub fn points() -> [u16; 500]
-    ensures { Points result }
-{
-    POINTS
+pub fn points() -> Table<PointAt> {
+    Table::of(POINTS)
 }

@@ -12,8 +12,8 @@ use Rattle.rules.specs.Points.{first_part, second_part}
 use Rattle.rules.specs.Cells.{carried}
 use Rattle.rules.specs.Block.{sent_bit, cell_for, sent_cell, Cells}
 use Rattle.rules.specs.declared.Profile.{Profile}
-use Rattle.rules.specs.declared.Carried.{Carried}
-use Rattle.rules.specs.declared.Carried.TheVariants.{Nothing, PointOf}
+use Rattle.std.specs.Prelude.{Option, Some, None}
+use Rattle.rules.specs.declared.PointOf.{PointOf}
 use Rattle.rules.specs.declared.Cell.TheVariants.{Carries}
 use Rattle.cells.specs.Symbol.{slot_bit, symbol_cell, Written}
 use Rattle.cells.proofs.Inverse.{cell-carried}
@@ -52,13 +52,13 @@ module _ (P : Profile) (d : List ℕ) where
     cell-is : (y c : ℕ) → symbol_cell m P.level l y c ≡ sent_cell P d y c
     cell-is y c = go (carried m y c) refl
       where
-        go : (x : Carried) → carried m y c ≡ x
+        go : (x : Option PointOf) → carried m y c ≡ x
             → cell_for (part_bits m) P.level (slot_bit m l) x ≡ cell_for (part_bits m) P.level (sent_bit P d) x
-        go Nothing e = refl
-        go (PointOf t i) e =
-            let w = cell-carried m y c t i e in
+        go None e = refl
+        go (Some p) e =
+            let w = cell-carried m y c p.slot p.point e in
             ap Carries (point-same (part_bits m) P.level _ _ (figures m).part
-            (λ j h. slot-bit t (2 * part_bits m * i + j) w.0 (point-bit i j w.1 h)))
+            (λ j h. slot-bit p.slot (2 * part_bits m * p.point + j) w.0 (point-bit p.point j w.1 h)))
 
     -- one symbol, and all of them
     pub symbol_cells : (y : ℕ) (firsts seconds : List Float) → Written m P.level l y firsts seconds → Cells P d y 1 firsts seconds

@@ -1,10 +1,13 @@
 -- A number that is no mode counts as 1.
+use mathlib.Core.Path.{sym, ◌∙◌}
 use native.Mathlib.Omega.{arith}
-use borrow.Author.Tests.{lt-ltb, le-ltb}
+use borrow.Author.Tests.{ltb-true}
 use Rattle.modes.proofs.counted.Goals as goal
 
-pub returns-then-mode-lt5 : goal.returns-then-mode-lt5
-returns-then-mode-lt5 c = (rw (lt-ltb _ _ c.if-mode-lt5.true), omega arith)
+pub returns-then-is_mode : goal.returns-then-is_mode
+returns-then-is_mode c =
+    let small = sym c.is_mode.ensures ∙ c.if-is_mode.true in
+    (rw small c.from.ensures, omega (arith, ltb-true c.args.mode 5 small))
 
-pub returns : goal.returns
-returns c = (rw (le-ltb c.args.mode 5 (omega arith)), omega arith)
+pub returns-else-is_mode : goal.returns-else-is_mode
+returns-else-is_mode c = (rw (sym c.is_mode.ensures ∙ c.if-is_mode.false), omega arith)

@@ -1,5 +1,6 @@
 -- By the mode that the number counts as.
 use mathlib.Core.Path.{◌≡◌, refl}
+use mathlib.Core.Logic.{⊎_elim}
 use Prim.Native.Nat.{ℕ}
 use native.Mathlib.Decide.{ℕ_discrete}
 use native.Mathlib.Omega.{arith}
@@ -10,11 +11,9 @@ use Rattle.modes.proofs.rate.Goals as goal
 
 pub returns-in-0 : goal.returns-in-0
 unfolding mode
-returns-in-0 c = rw (rate-counted _ _ c.counted.ensures.0, c.in-0.is) refl
-
-pub returns-in-2 : goal.returns-in-2
-unfolding mode
-returns-in-2 c = rw (rate-counted _ _ c.counted.ensures.0, c.in-2.is) refl
+returns-in-0 c =
+    rw (rate-counted _ _ c.counted.ensures.0)
+    (⊎_elim (λ (e : c.counted.result ≡ 0). rw e refl) (λ (e : c.counted.result ≡ 2). rw e refl) c.in-0.is)
 
 pub returns-in-4 : goal.returns-in-4
 unfolding mode
@@ -24,7 +23,7 @@ pub returns-in_default : goal.returns-in_default
 unfolding mode
 returns-in_default c =
     let k = c.counted.result in
-    rw (rate-counted _ _ c.counted.ensures.0) (go k (ℕ_discrete k 1) (omega arith))
+    rw (rate-counted _ _ c.counted.ensures.0) (go k (ℕ_discrete k 1) (grind arith))
   where
     go : (k : ℕ) → Dec (k ≡ 1) → (¬ (k ≡ 1) → k ≡ 3) → Half ≡ rate k
     go k (yes e) other = rw e refl

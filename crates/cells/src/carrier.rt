@@ -1,0 +1,64 @@
+// Which points the cells of a mode carry.
+ghost use Rattle.std.specs.Prelude.{◌≡◌, ◌<◌, ◌≤◌};
+ghost use Rattle.rules.specs.Modes as figures;
+ghost use Rattle.rules.specs.Cells as rule;
+
+use super::spot::Spot;
+use order::{PointAt, Table};
+use rules::PointOf;
+
+// How many slots the block has, and the order of their points.
+#[derive(Drop)]
+pub(crate) struct Carrier {
+    mode: u8,
+    slots: usize,
+    points: Table<PointAt>,
+    ghost slots_are: { slots ≡ figures.slots mode },
+}
+
+// The slot number of an interlace in a symbol, 0 for none.
+fn slot_of(symbol: usize, interlace: usize) -> usize
+    requires { (symbol < 4096) × (interlace < 8) }
+    ensures { (result ≡ rule.slot_of symbol interlace) × (result ≤ 7) }
+{
+    interlace
+}
+
+impl Carrier {
+    pub(crate) fn of(mode: u8) -> Carrier
+        ensures { result.mode ≡ mode }
+    {
+        Carrier {
+            mode,
+            slots: modes::slot_count(mode),
+            points: order::points(),
+        }
+    }
+
+    // What an interlace carries at a place.
+    fn at(&self, symbol: usize, spot: Spot) -> Option<PointOf>
+        requires { symbol < 4096 }
+        ensures { result ≡ rule.carried_at self.now.mode symbol (rule.place spot.interlace spot.place) }
+    {
+        let slot = slot_of(symbol, spot.interlace);
+        if slot == 0 {
+            return None;
+        }
+        let t = 7 * symbol + slot - 1;
+        if t >= self.slots {
+            return None;
+        }
+        Some(PointOf {
+            slot: t,
+            point: self.points.at(spot.place).unwrap(),
+        })
+    }
+
+    // What cell c of a symbol carries.
+    pub(crate) fn cell(&self, symbol: usize, c: usize) -> Option<PointOf>
+        requires { symbol < 4096 }
+        ensures { result ≡ rule.carried self.now.mode symbol c }
+    {
+        self.at(symbol, Spot::of(c)?)
+    }
+}

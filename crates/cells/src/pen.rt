@@ -1,0 +1,58 @@
+// What a block's cells are written by.
+ghost use Rattle.std.specs.Prelude.{◌≡◌, ◌+◌, ◌*◌, ◌<◌, ◌≤◌, length};
+ghost use Rattle.rules.specs.Modes as figures;
+ghost use Rattle.cells.specs.Symbol.{symbol_cell};
+
+use super::carrier::Carrier;
+use super::parts::Parts;
+use rules::{Cell, PointOf};
+
+// Which points the cells carry, how many bits a slot and a part have, and the parts at the level.
+#[derive(Drop)]
+pub(crate) struct Pen {
+    carrier: Carrier,
+    slot_bits: usize,
+    part_bits: usize,
+    parts: Parts,
+    ghost slot_long: { slot_bits ≡ figures.slot_bits carrier.mode },
+    ghost part_long: { part_bits ≡ figures.part_bits carrier.mode },
+}
+
+impl Pen {
+    pub(crate) fn of(mode: u8, level: f32) -> Pen
+        ensures { (result.carrier.mode ≡ mode) × (result.parts.level ≡ level) }
+    {
+        Pen {
+            carrier: Carrier::of(mode),
+            slot_bits: modes::slot_bits(mode),
+            part_bits: modes::part_bits(mode),
+            parts: Parts::of(level),
+        }
+    }
+
+    // Where the bits of a point begin in a block.
+    fn first_bit(&self, p: PointOf) -> usize
+        requires { (p.slot < figures.slots self.now.carrier.mode) × (p.point < 500) }
+        ensures {
+            let m = self.now.carrier.mode in
+            (result ≡ figures.slot_bits m * p.slot + 2 * figures.part_bits m * p.point)
+            × (result + 2 * figures.part_bits m ≤ figures.slot_bits m * figures.slots m)
+        }
+    {
+        self.slot_bits * p.slot + 2 * self.part_bits * p.point
+    }
+
+    // The cell of a symbol whose block has these scrambled bits.
+    pub(crate) fn cell(&self, bits: &[u8], symbol: usize, c: usize) -> Cell
+        requires {
+            let m = self.now.carrier.mode in
+            (symbol < 4096) × (length bits.now ≡ figures.slot_bits m * figures.slots m)
+        }
+        ensures { result ≡ symbol_cell self.now.carrier.mode self.now.parts.level bits.now symbol c }
+    {
+        match self.carrier.cell(symbol, c) {
+            None => Cell::Silent,
+            Some(p) => Cell::Carries(self.parts.point(self.part_bits, bits, self.first_bit(p))),
+        }
+    }
+}

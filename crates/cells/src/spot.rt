@@ -1,0 +1,34 @@
+// Where a cell is in its interlace.
+ghost use Rattle.std.specs.Prelude.{◌<◌};
+
+#[derive(Clone, Copy)]
+pub(crate) struct Spot {
+    pub(crate) interlace: usize,
+    pub(crate) place: usize,
+    ghost inside: { (interlace < 8) × (place < 500) },
+}
+
+impl Spot {
+    ghost use Rattle.std.specs.Prelude.{◌≡◌};
+    ghost use Rattle.rules.specs.Cells.{belongs};
+    ghost use Rattle.cells.specs.Spot.{belonging};
+
+    // That of cell c; none where it is in no interlace. Cell 2048 is in none, so the upper half of interlace 0 stands one place higher.
+    pub(crate) fn of(c: usize) -> Option<Spot>
+        ensures { belonging result ≡ belongs c }
+    {
+        if c < 48 || c == 2048 || c > 4048 {
+            return None;
+        }
+        if c % 8 == 0 && c > 2048 {
+            return Some(Spot {
+                interlace: 0,
+                place: (c - 56) / 8,
+            });
+        }
+        Some(Spot {
+            interlace: c % 8,
+            place: (c - 48) / 8,
+        })
+    }
+}

@@ -1,0 +1,51 @@
+// A table of 500 numbers that a rule gives.
+ghost use Rattle.std.specs.Prelude.{◌≡◌, ℕ, Option, Some, None, ltb};
+ghost use Rattle.rules.specs.Bits.{pick};
+ghost use Rattle.rules.specs.Cells.{place_of, point_at};
+ghost use Rattle.laws.specs.Holds.{Holds};
+
+use std::marker::PhantomData;
+
+// Which number stands where.
+pub trait Order {
+    ghost rule: { ℕ → ℕ };
+}
+
+// The place of each point in its interlace.
+pub struct PlaceOf;
+
+impl Order for PlaceOf {
+    ghost rule = { place_of };
+}
+
+// The point at each place of an interlace.
+pub struct PointAt;
+
+impl Order for PointAt {
+    ghost rule = { point_at };
+}
+
+#[derive(Drop)]
+pub struct Table<O: Order> {
+    numbers: [u16; 500],
+    order: PhantomData<O>,
+    ghost by_rule: { Holds 0 500 O.rule numbers },
+}
+
+impl<O: Order> Table<O> {
+    pub(crate) fn of(numbers: [u16; 500]) -> Table<O>
+        requires { Holds 0 500 O.rule numbers }
+    {
+        Table {
+            numbers,
+            order: PhantomData,
+        }
+    }
+
+    // What stands at a position, of which there are 500.
+    pub fn at(&self, position: usize) -> Option<usize>
+        ensures { result ≡ pick (ltb position 500) (Some (O.rule position)) None }
+    {
+        self.numbers.get(position).map(|n| usize::from(*n))
+    }
+}
