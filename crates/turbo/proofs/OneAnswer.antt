@@ -1,28 +1,28 @@
 -- Coding and judging a packet can't lawfully answer in two ways: from two answers by the rule, the same answer and the same bits or bytes.
 use mathlib.Core.Path.{◌≡◌, refl, sym, ap, ◌∙◌}
-use mathlib.Core.List.{List}
+use Rattle.std.specs.Prelude.{List, ⊤, Result, Ok, Err}
 use Prim.Native.Nat.{ℕ}
 use native.Mathlib.Decide.{ℕ_discrete}
 use lib.Dec.{eqb}
 use Rattle.rules.specs.Bits.{pick}
 use Rattle.rules.specs.Answers.{coding_number}
-use Rattle.rules.specs.declared.Coding.{Coding}
-use Rattle.rules.specs.declared.Coding.TheVariants.{Coded, WrongMode, WrongLength}
+use Rattle.rules.specs.declared.CodingError.{CodingError}
+use Rattle.rules.specs.declared.CodingError.TheVariants.{WrongMode, WrongLength}
 use Rattle.rules.specs.Answers.{Judgement}
 use Rattle.laws.specs.Holds.{holds_one}
 use Rattle.turbo.specs.Coded.{CodingRule, JudgingRule}
 
 -- an answer goes by its number
-coding-of : ℕ → Coding
-coding-of n = pick (eqb n 0) Coded (pick (eqb n 42) WrongMode WrongLength)
+coding-of : ℕ → Result ⊤ CodingError
+coding-of n = pick (eqb n 0) (Ok tt) (pick (eqb n 42) (Err WrongMode) (Err WrongLength))
 
-numbered : (a : Coding) → coding-of (coding_number a) ≡ a
+numbered : (a : Result ⊤ CodingError) → coding-of (coding_number a) ≡ a
 unfolding coding-of
-numbered Coded = refl
-numbered WrongMode = refl
-numbered WrongLength = refl
+numbered (Ok x) = refl
+numbered (Err WrongMode) = refl
+numbered (Err WrongLength) = refl
 
-pub one-coding : (m : ℕ) (d before after after' : List ℕ) (a a' : Coding)
+pub one-coding : (m : ℕ) (d before after after' : List ℕ) (a a' : Result ⊤ CodingError)
     → CodingRule m d before after a
     → CodingRule m d before after' a'
     → (a ≡ a') × (after ≡ after')

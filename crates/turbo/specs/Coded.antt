@@ -1,5 +1,5 @@
 -- What coding and judging one packet answer, for every input.
-use Rattle.std.specs.Prelude.{◌≡◌, Bool, not, ◌&&◌, List, ℕ, eqb, ltb, length, replicate}
+use Rattle.std.specs.Prelude.{◌≡◌, Bool, not, ◌&&◌, List, ℕ, ⊤, Result, eqb, ltb, length, replicate}
 use Rattle.rules.specs.Bits.{pick, row, every_below}
 use Rattle.rules.specs.Packet.{packet_bit}
 use Rattle.rules.specs.Interleaver.{table_d, interleaved}
@@ -8,13 +8,13 @@ use Rattle.rules.specs.Answers.{coding_number}
 use Rattle.rules.specs.Modes.{is_mode, packet_bits}
 use Rattle.rules.specs.Slots.{coded}
 use Rattle.rules.specs.Block.{verdict, decided_data, byte_of}
-use Rattle.rules.specs.declared.Coding.{Coding}
+use Rattle.rules.specs.declared.CodingError.{CodingError}
 use Rattle.rules.specs.Answers.{Judgement}
 use Rattle.laws.specs.Holds.{Holds}
 use Rattle.patterns.specs.Places.{sent_place}
 
 -- coding 122 bytes into as many bits as a packet of the mode has: 42 another mode, 6 too short or too long, and nothing is written then
-pub record CodingRule (m : ℕ) (d before after : List ℕ) (a : Coding) : Type 0 where
+pub record CodingRule (m : ℕ) (d before after : List ℕ) (a : Result ⊤ CodingError) : Type 0 where
   pub answer : coding_number a ≡ pick (not (is_mode m)) 42 (pick (not (eqb (length d) 122 && eqb (length before) (packet_bits m))) 6 0)
   pub bits : coding_number a ≡ 0 → Holds 0 (packet_bits m) (coded m (packet_bit (row d))) after
   pub kept : ¬ (coding_number a ≡ 0) → after ≡ before

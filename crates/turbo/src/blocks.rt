@@ -1,15 +1,16 @@
 // A block's 16 packets, coded or judged one after the other. A number that is no mode counts as 1.
-ghost use Rattle.std.specs.Prelude.{◌≡◌, ◌+◌, ◌*◌, ◌≤◌, ◌<◌, ◌^◌, eqb, length};
-ghost use Rattle.rules.specs.Bits.{pick, row};
+ghost use Rattle.std.specs.Prelude.{◌≡◌, ◌≤◌, ◌<◌, ◌*◌, length};
+ghost use Rattle.rules.specs.Bits.{row};
 ghost use Rattle.rules.specs.Outer as outerRule;
 ghost use Rattle.rules.specs.Modes.{packet_bits};
+ghost use Rattle.rules.specs.Answers.{judgement_of};
 ghost use Rattle.laws.specs.Holds.{Holds};
 ghost use Rattle.patterns.specs.Places.{Places, OwnPlaces};
 ghost use Rattle.turbo.specs.Coded.{Addresses};
 ghost use Rattle.turbo.specs.Blocks.{coded_row, Weighed, WeighedTo};
 
-use super::{code_with, copy, judge_with};
-use rules::Judgement;
+use super::{code_with, judge_with};
+use rules::Reason;
 
 // The lost mask, the reasons, and the block of what is accepted, with zeros for what is lost.
 #[derive(Clone, Copy)]
@@ -50,28 +51,21 @@ fn marked(marks: u16, p: usize) -> u16
 }
 
 // One packet's judgement: a marked one is lost without a look at its bits.
-fn weigh(addresses: &[u16], places: &[u16], own: &[u16], mode: u8, mark: u16, v: &[u8]) -> Judgement
+fn weigh(
+    addresses: &[u16],
+    places: &[u16],
+    own: &[u16],
+    mode: u8,
+    mark: u16,
+    v: &[u8],
+) -> Result<[u8; 122], Reason>
     requires { Addresses addresses.now × Places mode places.now × OwnPlaces mode own.now × (packet_bits mode ≤ length v.now) }
-    ensures { Weighed mode mark (row v.now) result }
+    ensures { Weighed mode mark (row v.now) (judgement_of result) }
 {
     if mark == 1 {
-        return Judgement {
-            reason: 11,
-            bytes: [0u8; 122],
-        };
+        return Err(Reason::Marked);
     }
     judge_with(addresses, places, own, mode, v)
-}
-
-// The lost mask with bit p, where packet p has a reason.
-fn with_lost(lost: u16, p: usize, reason: u8) -> u16
-    requires { (p < 16) × (lost < 2 ^ p) }
-    ensures { result ≡ lost + pick (eqb reason 0) 0 (2 ^ p) }
-{
-    if reason == 0 {
-        return lost;
-    }
-    lost + (1 << p)
 }
 
 // The judgements on the packets that have these decided bits, packet after packet; those past the mode's are unused.
@@ -87,19 +81,23 @@ pub fn judge_block(mode: u8, marks: u16, bits: [u8; 48000]) -> Verdicts
     let mut block = [0u8; 1952];
     for p in 0..16 {
         let at = n * p;
-        let j = weigh(
+        match weigh(
             &addresses,
             &places,
             &own,
             mode,
             marked(marks, p),
             &bits[at..at + n],
-        );
-        let bytes = j.bytes;
-        let to = 122 * p;
-        lost = with_lost(lost, p, j.reason);
-        reasons[p] = j.reason;
-        copy(&bytes, &mut block[to..to + 122]);
+        ) {
+            Ok(bytes) => {
+                let to = 122 * p;
+                block[to..to + 122].copy_from_slice(&bytes);
+            }
+            Err(reason) => {
+                lost += 1 << p;
+                reasons[p] = reason.number();
+            }
+        }
     }
     Verdicts {
         lost,

@@ -1,12 +1,13 @@
 // One packet's coded bits, and the judgement on decided ones; a whole block's are in blocks.rt. A bit is a byte that is 0 or 1.
 #![tactic(auto)]
 
-ghost use Rattle.std.specs.Prelude.{◌≡◌, ◌&&◌, ℕ, ◌+◌, ◌≤◌, ◌<◌, length, replicate};
+ghost use Rattle.std.specs.Prelude.{◌≡◌, ◌&&◌, ℕ, ◌+◌, ◌≤◌, ◌<◌, length};
 ghost use Rattle.rules.specs.Bits.{row};
 ghost use Rattle.rules.specs.Packet.{packet_bit};
 ghost use Rattle.rules.specs.Turbo as rule;
 ghost use Rattle.rules.specs.Modes.{packet_bits};
 ghost use Rattle.rules.specs.Slots.{second, coded};
+ghost use Rattle.rules.specs.Answers.{judgement_of};
 ghost use Rattle.laws.specs.Holds.{Holds};
 ghost use Rattle.laws.specs.Rows.{Bits};
 ghost use Rattle.patterns.specs.Places.{Places, OwnPlaces};
@@ -17,7 +18,7 @@ ghost use Rattle.turbo.specs.Coded.{CodingRule, JudgingRule, Addresses, plain_bi
 mod blocks;
 
 pub use blocks::{Verdicts, code_block, judge_block};
-use rules::{Coding, Judgement};
+use rules::{CodingError, Reason};
 
 fn wide(x: u16) -> usize
     ensures { (result ≡ x) × (result < 65536) }
@@ -205,22 +206,19 @@ fn code_with(addresses: &[u16], places: &[u16], mode: u8, data: &[u8], out: &mut
 }
 
 // One packet of 122 bytes, coded and interleaved.
-pub fn code(mode: u8, data: &[u8], out: &mut [u8]) -> Coding
+pub fn code(mode: u8, data: &[u8], out: &mut [u8]) -> Result<(), CodingError>
     ensures { CodingRule mode «data».now out.old out.new result }
 {
     if !modes::is_mode(mode) {
-        return Coding::WrongMode;
+        return Err(CodingError::WrongMode);
     }
-    if data.len() != 122 {
-        return Coding::WrongLength;
-    }
-    if out.len() != modes::packet_bits(mode) {
-        return Coding::WrongLength;
+    if data.len() != 122 || out.len() != modes::packet_bits(mode) {
+        return Err(CodingError::WrongLength);
     }
     let addresses = interleaver::addresses();
     let places = patterns::places(mode);
     code_with(&addresses, &places, mode, data, out);
-    Coding::Coded
+    Ok(())
 }
 
 fn both(a: bool, b: bool) -> bool
@@ -272,42 +270,36 @@ fn decided(own: &[u16], v: &[u8]) -> [u8; 994]
     x
 }
 
-fn refused(reason: u8) -> Judgement
-    ensures { (result.reason ≡ reason) × (result.bytes ≡ replicate 122 0) }
-{
-    Judgement {
-        reason,
-        bytes: [0u8; 122],
-    }
-}
-
 // Judges the first decided bits, as many as a packet of the mode has; the addresses are the interleaver's, and both tables of places the mode's.
-fn judge_with(addresses: &[u16], places: &[u16], own: &[u16], mode: u8, v: &[u8]) -> Judgement
+fn judge_with(
+    addresses: &[u16],
+    places: &[u16],
+    own: &[u16],
+    mode: u8,
+    v: &[u8],
+) -> Result<[u8; 122], Reason>
     requires { Addresses addresses.now × Places mode places.now × OwnPlaces mode own.now × (packet_bits mode ≤ length v.now) }
-    ensures { JudgingRule mode (row v.now) result }
+    ensures { JudgingRule mode (row v.now) (judgement_of result) }
 {
     if !plain(v, modes::packet_bits(mode)) {
-        return refused(12);
+        return Err(Reason::Doubtful);
     }
     let x = decided(own, v);
     if !packet::check_right(x) {
-        return refused(13);
+        return Err(Reason::CheckWord);
     }
     if !packet::reserved_right(x) {
-        return refused(14);
+        return Err(Reason::Reserved);
     }
     if !same(places, mode, v, streams_of(addresses, x)) {
-        return refused(15);
+        return Err(Reason::Coded);
     }
-    Judgement {
-        reason: 0,
-        bytes: packet::bytes_of(x),
-    }
+    Ok(packet::bytes_of(x))
 }
 
 // Judges one packet's decided bits; those past the mode's are unused. A number that is no mode counts as 1.
-pub fn judge(mode: u8, v: [u8; 3000]) -> Judgement
-    ensures { JudgingRule mode (row v) result }
+pub fn judge(mode: u8, v: [u8; 3000]) -> Result<[u8; 122], Reason>
+    ensures { JudgingRule mode (row v) (judgement_of result) }
 {
     let addresses = interleaver::addresses();
     let places = patterns::places(mode);

@@ -1,15 +1,16 @@
 -- `judge_with` answers by the judging rule: the local array has the decided data, and each test is the rule's.
 use mathlib.Core.Path.{◌≡◌, refl, sym, ap, ◌∙◌}
 use mathlib.Core.Bool.{Bool, true}
-use mathlib.Core.List.{List}
+use Rattle.std.specs.Prelude.{List, Err}
 use Prim.Native.Nat.{ℕ, ◌<◌}
 use native.Mathlib.Omega.{arith}
-use lib.ListN.{replicate}
 use Rattle.rules.specs.Bits.{row}
 use Rattle.rules.specs.Modes.{packet_bits}
 use Rattle.rules.specs.Slots.{coded, second}
 use Rattle.rules.specs.Block.{verdict, byte_of, decided_data, check_right, reserved_right}
-use Rattle.rules.specs.Answers.{Judgement}
+use Rattle.rules.specs.Answers.{reason_number, judgement_of}
+use Rattle.rules.specs.declared.Reason.{Reason}
+use Rattle.rules.specs.declared.Reason.TheVariants.{Doubtful, CheckWord, Reserved, Coded}
 use Rattle.laws.specs.Holds.{Holds, holds_as}
 use Rattle.laws.specs.Rows.{Bits}
 use Rattle.laws.specs.Filled.{holds-bits}
@@ -22,12 +23,8 @@ use Rattle.turbo.proofs.judge_with.Goals.{After-decided-x}
 use Rattle.turbo.proofs.judge_with.Goals as goal
 
 -- a refusal, for a reason that is the verdict
-refusal : (m : ℕ) (v : ℕ → ℕ) (n : ℕ) (a : Judgement)
-    → (a.reason ≡ n) × (a.bytes ≡ replicate 122 0)
-    → n ≡ verdict m v
-    → (n ≡ 0 → ⊥)
-    → JudgingRule m v a
-refusal m v n a is e not = record { reason_is = is.0 ∙ e; accepted = λ zero. absurd (not (sym is.0 ∙ zero)); refused = λ ne. is.1 }
+refusal : (m : ℕ) (v : ℕ → ℕ) (r : Reason) → reason_number r ≡ verdict m v → (reason_number r ≡ 0 → ⊥) → JudgingRule m v (judgement_of (Err r))
+refusal m v r e not = record { reason_is = e; accepted = λ zero. absurd (not zero); refused = λ ne. refl }
 
 -- ---- what is known on the way
 
@@ -70,7 +67,7 @@ module _ (c : After-decided-x) where
 
 pub returns-then-not-plain : goal.returns-then-not-plain
 returns-then-not-plain c =
-    refusal c.args.mode (row c.args.v.now) 12 c.refused.result c.refused.ensures
+    refusal c.args.mode (row c.args.v.now) Doubtful
     (verdict-by c.args.mode (row c.args.v.now) (plain-is c.args.mode (row c.args.v.now) c.packet_bits.ensures.0 c.plain.ensures ∙ c.if-not-plain.true) refl refl refl) (λ e. omega arith)
 
 pub decided-x-requires : goal.decided-x-requires
@@ -79,13 +76,13 @@ decided-x-requires c =
 
 pub returns-then-not-check_right : goal.returns-then-not-check_right
 returns-then-not-check_right c =
-    refusal (m (goal.at.returns-then-not-check_right c).After-decided-x) (v (goal.at.returns-then-not-check_right c).After-decided-x) 13 c.refused-then-not-check_right.result c.refused-then-not-check_right.ensures
+    refusal (m (goal.at.returns-then-not-check_right c).After-decided-x) (v (goal.at.returns-then-not-check_right c).After-decided-x) CheckWord
     (verdict-by (m (goal.at.returns-then-not-check_right c).After-decided-x) (v (goal.at.returns-then-not-check_right c).After-decided-x) (plain-passed (goal.at.returns-then-not-check_right c).After-decided-x) (check-is (goal.at.returns-then-not-check_right c).After-decided-x c.check_right.ensures ∙ c.if-not-check_right.true) refl refl)
     (λ e. omega arith)
 
 pub returns-then-not-reserved_right : goal.returns-then-not-reserved_right
 returns-then-not-reserved_right c =
-    refusal (m (goal.at.returns-then-not-reserved_right c).After-decided-x) (v (goal.at.returns-then-not-reserved_right c).After-decided-x) 14 c.refused-then-not-reserved_right.result c.refused-then-not-reserved_right.ensures
+    refusal (m (goal.at.returns-then-not-reserved_right c).After-decided-x) (v (goal.at.returns-then-not-reserved_right c).After-decided-x) Reserved
     (verdict-by (m (goal.at.returns-then-not-reserved_right c).After-decided-x) (v (goal.at.returns-then-not-reserved_right c).After-decided-x) (plain-passed (goal.at.returns-then-not-reserved_right c).After-decided-x) (check-is (goal.at.returns-then-not-reserved_right c).After-decided-x c.check_right.ensures ∙ c.if-not-check_right.false)
     (reserved-is (goal.at.returns-then-not-reserved_right c).After-decided-x c.reserved_right.ensures ∙ c.if-not-reserved_right.true) refl)
     (λ e. omega arith)
@@ -96,7 +93,7 @@ streams_of-requires c =
 
 pub returns-then-not-same : goal.returns-then-not-same
 returns-then-not-same c =
-    refusal (m (goal.at.returns-then-not-same c).After-decided-x) (v (goal.at.returns-then-not-same c).After-decided-x) 15 c.refused-then-not-same.result c.refused-then-not-same.ensures
+    refusal (m (goal.at.returns-then-not-same c).After-decided-x) (v (goal.at.returns-then-not-same c).After-decided-x) Coded
     (verdict-by (m (goal.at.returns-then-not-same c).After-decided-x) (v (goal.at.returns-then-not-same c).After-decided-x) (plain-passed (goal.at.returns-then-not-same c).After-decided-x) (check-is (goal.at.returns-then-not-same c).After-decided-x c.check_right.ensures ∙ c.if-not-check_right.false) (reserved-is (goal.at.returns-then-not-same c).After-decided-x c.reserved_right.ensures ∙ c.if-not-reserved_right.false)
     (same-is (goal.at.returns-then-not-same c).After-decided-x c.streams_of.ensures c.same.ensures ∙ c.if-not-same.true))
     (λ e. omega arith)

@@ -1,15 +1,17 @@
 -- The loop's invariant: the first p packets are judged.
-use mathlib.Core.Path.{◌≡◌, refl, sym, ◌∙◌, ap}
-use Prim.Native.Nat.{ℕ, ◌+◌, ◌*◌, ◌≤◌, ◌<◌}
+use mathlib.Core.Path.{◌≡◌, refl, ◌∙◌, ap}
+use Prim.Native.Nat.{ℕ, suc, ◌+◌, ◌*◌, ◌^◌, ◌≤◌, ◌<◌}
 use native.Mathlib.Omega.{arith}
+use mathlib.Core.List.{List}
+use lib.Pow.{pow_mono}
 use lib.ListN.{length}
 use borrow.Author.Rules.{rules}
 use Rattle.rules.specs.Bits.{row}
 use Rattle.rules.specs.Modes.{packet_bits}
 use Rattle.rules.specs.Block.{packet_part}
 use Rattle.laws.specs.Parts.{part, part-within, part-long, part_at}
-use Rattle.turbo.proofs.Weighing.{weighed-none, weighed-lt, weighed-next}
-use Rattle.turbo.proofs.blocks.judge_block.Goals.{After-own_places-own, After-packet_bits-n, At-loop-p, In-loop-p, Start}
+use Rattle.turbo.proofs.Weighing.{weighed-none, weighed-lt, weighed-kept, weighed-lost}
+use Rattle.turbo.proofs.blocks.judge_block.Goals.{in-Ok, in-Err, After-own_places-own, After-packet_bits-n, At-loop-p, In-loop-p, Start}
 use Rattle.turbo.proofs.blocks.judge_block.Goals as goal
 
 -- a packet's bits are within the block's
@@ -54,45 +56,50 @@ pub overflow_add-at : goal.overflow_add-at
 overflow_add-at c =
     omega (arith, within c.packet_bits-n.result c.loop-p.p (omega arith) (omega arith))
 
-pub weigh-j-requires : goal.weigh-j-requires
-weigh-j-requires c =
+pub weigh-requires : goal.weigh-requires
+weigh-requires c =
     let n = c.packet_bits-n in
     let at : ℕ = n.result * c.loop-p.p in
     let s = c in (
       c.addresses-addresses.ensures,
       c.places-places.ensures,
       c.own_places-own.ensures,
-      omega (arith, part-long at (at + n.result) s.args.bits (omega arith) (place (goal.at.weigh-j-requires c).In-loop-p)),
+      omega (arith, part-long at (at + n.result) s.args.bits (omega arith) (place (goal.at.weigh-requires c).In-loop-p)),
     )
 
-pub with_lost-lost-requires : goal.with_lost-lost-requires
-with_lost-lost-requires c =
+-- there is room for the packet's bit
+lost-room : (c : In-loop-p) → c.loop-p.lost + 2 ^ c.loop-p.p < 65536
+lost-room c =
+    let p = c.loop-p.p in
     let a = c.args in
-    (omega arith, weighed-lt c.loop-p.p a.mode a.marks (row a.bits) c.loop-p.invariant.1)
+    let top : 2 ^ suc p ≤ 65536 = pow_mono {j = 16} (omega arith) in
+    omega (arith, weighed-lt p a.mode a.marks (row a.bits) c.loop-p.invariant.1)
 
-pub slice_bounds-copy-end : goal.slice_bounds-copy-end
-slice_bounds-copy-end c = sym c.weigh-j.ensures.bytes_are.long
-
-pub copy-requires : goal.copy-requires
-copy-requires c =
-    let l = c.loop-p in
-    let at : ℕ = 122 * l.p in
-    let long = l.invariant.1.block_is.long in
-    c.weigh-j.ensures.bytes_are.long
-    ∙ sym (part-long at (at + 122) l.block (omega arith) (omega arith) ∙ omega arith)
+pub overflow_add-lost : goal.overflow_add-lost
+overflow_add-lost c = omega (arith, lost-room (goal.at.overflow_add-lost c).In-loop-p)
 
 pub loop-p-preserved : goal.loop-p-preserved
 loop-p-preserved c =
     let l = c.loop-p in
+    let a = c.args in
     let n = c.packet_bits-n in
-    let s = c in
     let at : ℕ = n.result * l.p in
-    let w = rw c.marked.ensures at c.weigh-j.ensures in (
-      omega arith,
-      weighed-next s.args.mode s.args.marks l.p (row s.args.bits) (row (part at (at + n.result) s.args.bits))
-          c.weigh-j.result c.with_lost-lost.result (122 * l.p + 122) c.copy.new.to
-          (omega arith) (own (goal.at.loop-p-preserved c).In-loop-p) w c.with_lost-lost.ensures refl c.copy.ensures l.invariant.1,
-    )
+    let bits : List ℕ = part at (at + n.result) a.bits in
+    let i = (goal.at.loop-p-preserved c).In-loop-p in
+    elim c.match-weigh.branch [
+      | in-Ok w ↦ (
+        omega arith,
+        rw (w.lost-is, w.reasons-is, w.block-is)
+            (weighed-kept a.mode a.marks l.p (row a.bits) (row bits) c.loop-p-test.true (own i) (122 * l.p + 122) w.in-Ok.bytes w.copy_from_slice.new.self
+            (rw c.marked.ensures at w.in-Ok.ensures) refl w.copy_from_slice.ensures.after l.invariant.1),
+      )
+      | in-Err w ↦ (
+        omega arith,
+        rw (w.lost-is, w.reasons-is, w.block-is)
+            (weighed-lost a.mode a.marks l.p (row a.bits) (row bits) c.loop-p-test.true (own i) w.in-Err.reason w.number.result _ w.number.ensures
+            (rw c.marked.ensures at w.in-Err.ensures) (omega (arith, lost-room i)) l.invariant.1),
+      )
+    ]
 
 pub returns : goal.returns
 returns c =
