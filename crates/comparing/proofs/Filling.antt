@@ -12,7 +12,7 @@ use lib.Seq.{paste, length-paste, take-paste, drop-paste, take_all, drop-drop, g
 use borrow.Author.Tests.{lt-ltb, le-ltb}
 use Rattle.rules.specs.Bits.{pick, row}
 use Rattle.rules.specs.Compare.{filled}
-use Rattle.comparing.specs.Listing.{to_go, Gone}
+use Rattle.comparing.specs.Listing.{to_go, Gone, place}
 
 -- where fewer than six numbers are left, nothing goes in any more
 pub filled-short : (ds : List (List ℕ)) (h : List ℕ) → length h < 6 → filled ds h ≡ h
@@ -30,18 +30,22 @@ pub nothing-to-go : (at : ℕ) (l : List ℕ) → to_go [] at l ≡ l
 unfolding filled
 nothing-to-go at l = take-append-drop at l
 
-pub none-gone : (l : List ℕ) (at : ℕ) (d : List ℕ) → at ≤ length l → length l - at < 6 → Gone l at d l at
-none-gone l at d le lt =
-    let short : length (drop at l) < 6 = subst (λ (n : ℕ). n < 6) (sym (length-drop at l)) lt in
-    record {
+-- difference k has no place
+pub none-gone : (l : List ℕ) (k : ℕ) (d : List ℕ) → ¬ (k < length l / 6) → Gone l (place (length l) k) d l (place (length l) (k + 1))
+none-gone l k d past =
+    let at : ℕ = place (length l) k in
+    let same_place : at ≡ place (length l) (k + 1) = omega arith in
+    let short : length (drop at l) < 6 = omega (arith, length-drop at l) in
+    subst (Gone l at d l) same_place
+    (record {
       long = refl;
-      inside = le;
+      inside = omega arith;
       same = λ ds. ap (λ (r : List ℕ). take at l ++ r) (filled-short (d ∷ ds) (drop at l) short ∙ sym (filled-short ds (drop at l) short));
-    }
+    })
 
-pub one-gone : (l : List ℕ) (at : ℕ) (d l' : List ℕ) → at ≤ length l → ¬ (length l - at < 6) → length d ≡ 6 → l' ≡ paste l at d 6 → Gone l at d l' (at + 6)
-one-gone l at d l' le fits six e =
-    let room : at + 6 ≤ length l = omega arith in
+gone-at : (l : List ℕ) (at : ℕ) (d l' : List ℕ) → at + 6 ≤ length l → length d ≡ 6 → l' ≡ paste l at d 6 → Gone l at d l' (at + 6)
+gone-at l at d l' room six e =
+    let le : at ≤ length l = omega arith in
     let enough : 6 ≤ length d = omega arith in
     let long : length l' ≡ length l = ap length e ∙ length-paste l at d 6 room enough in
     record {
@@ -56,6 +60,14 @@ one-gone l at d l' le fits six e =
           (ap (λ (r : List ℕ). take at l ++ r) (sym (take_all 6 d (omega arith))) ∙ sym (take-paste l at d 6 le enough) ∙ ap (take (at + 6)) (sym e))
           (sym (drop-paste l at d 6 le enough) ∙ ap (drop (at + 6)) (sym e));
     }
+
+-- it has one, and is there
+pub one-gone : (l : List ℕ) (k : ℕ) (d l' : List ℕ) → k < length l / 6 → length d ≡ 6 → l' ≡ paste l (6 * k) d 6
+    → Gone l (place (length l) k) d l' (place (length l) (k + 1))
+one-gone l k d l' lt six e =
+    let here : 6 * k ≡ place (length l) k = omega arith in
+    let next : 6 * k + 6 ≡ place (length l) (k + 1) = omega arith in
+    subst (λ (at : ℕ). Gone l at d l' (place (length l) (k + 1))) here (subst (Gone l (6 * k) d l') next (gone-at l (6 * k) d l' (omega arith) six e))
 
 -- ---- what stands where, for differences of six numbers each
 

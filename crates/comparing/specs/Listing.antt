@@ -1,5 +1,5 @@
 -- The differences as they go into the lent list, one after the other.
-use Rattle.std.specs.Prelude.{◌≡◌, List, ◌∷◌, ◌++◌, ℕ, ◌≤◌, length, take, drop}
+use Rattle.std.specs.Prelude.{◌≡◌, List, ◌∷◌, ◌++◌, ℕ, ◌*◌, ◌/◌, ◌≤◌, length, min, take, drop}
 use Rattle.rules.specs.Compare.{filled}
 
 -- what a list will hold once the differences ds have gone in from `at` on
@@ -11,3 +11,7 @@ pub record Gone (before : List ℕ) (at : ℕ) (d after : List ℕ) (at' : ℕ) 
   pub long : length after ≡ length before
   pub inside : at' ≤ length after
   pub same : (ds : List (List ℕ)) → to_go (d ∷ ds) at before ≡ to_go ds at' after
+
+-- where difference k has its place in a list of n numbers: behind the last whole place where it has none
+abbrev pub place : ℕ → ℕ → ℕ
+place n k = 6 * min k (n / 6)

@@ -1,112 +1,126 @@
 // Two grids side by side: the cells that differ, by the bit patterns of their parts.
 #![tactic(auto)]
 
-ghost use Rattle.std.specs.Prelude.{◌≡◌, ◌<◌, ◌≤◌, T, length};
+ghost use Rattle.std.specs.Prelude.{◌≡◌, ◌+◌, ◌<◌, T, length, IfOk, IfErr};
+ghost use Rattle.rules.specs.Answers.{answer_of, refusal_number};
 ghost use Rattle.rules.specs.Compare as rule;
-ghost use Rattle.rules.specs.Compare.{CompareRule, grids, one_length, comparing_number, differing, differences, filled};
-ghost use Rattle.comparing.specs.Listing.{Gone};
+ghost use Rattle.rules.specs.Compare.{Grids, CompareRule, grids, one_length, comparing_number, comparison_of, differing, differences, filled};
+ghost use Rattle.comparing.specs.Listing.{Gone, place};
 
-use rules::Comparison;
+use rules::Refusal;
+use std::marker::Model;
 
-// Whether cell i differs: a part has other bits.
-fn differs(
-    firsts_a: &[u32],
-    seconds_a: &[u32],
-    firsts_b: &[u32],
-    seconds_b: &[u32],
-    i: usize,
-) -> bool
-    requires { T (one_length (length firsts_a.now) (length seconds_a.now) (length firsts_b.now) (length seconds_b.now))
-        × (i < length firsts_a.now) }
-    ensures { result ≡ rule.differs (grids firsts_a.now seconds_a.now firsts_b.now seconds_b.now) i }
-{
-    if firsts_a[i] != firsts_b[i] {
-        return true;
-    }
-    seconds_a[i] != seconds_b[i]
+// Two grids whose four lists are of one length, whole symbols long.
+#[derive(Drop)]
+struct Pair<'a> {
+    firsts_a: &'a [u32],
+    seconds_a: &'a [u32],
+    firsts_b: &'a [u32],
+    seconds_b: &'a [u32],
 }
 
-// The six numbers of cell i, in grids that begin with the symbol `from`.
-fn difference(
-    from: u32,
-    firsts_a: &[u32],
-    seconds_a: &[u32],
-    firsts_b: &[u32],
-    seconds_b: &[u32],
-    i: usize,
-) -> [u32; 6]
-    requires { T (one_length (length firsts_a.now) (length seconds_a.now) (length firsts_b.now) (length seconds_b.now))
-        × (i < length firsts_a.now) }
-    ensures { result ≡ rule.difference from (grids firsts_a.now seconds_a.now firsts_b.now seconds_b.now) i }
-{
-    let symbol = (from as usize + i / 4096) % 4_294_967_296;
-    [
-        symbol as u32,
-        (i % 4096) as u32,
-        firsts_a[i],
-        seconds_a[i],
-        firsts_b[i],
-        seconds_b[i],
-    ]
+impl<'a> Model for Pair<'a> {
+    ghost Value = { Grids };
+
+    ghost view = { λ p. grids p.firsts_a.now p.seconds_a.now p.firsts_b.now p.seconds_b.now };
+
+    ghost invariant = { λ p. T (one_length (length p.firsts_a.now) (length p.seconds_a.now) (length p.firsts_b.now) (length p.seconds_b.now)) };
 }
 
-// Puts a difference into the list from `at` on, where it fits whole. Answers where the next one goes.
-fn list_one(list: &mut [u32], at: usize, difference: [u32; 6]) -> usize
-    requires { at ≤ length list.old }
-    ensures { Gone list.old at difference list.new result }
-{
-    if list.len() - at < 6 {
-        return at;
-    }
-    for k in 0..6 {
-        list[at + k] = difference[k];
-    }
-    at + 6
-}
-
-// Lists the differences in rising order, as far as they fit, and answers how many there are.
-fn list_all(
-    from: u32,
-    firsts_a: &[u32],
-    seconds_a: &[u32],
-    firsts_b: &[u32],
-    seconds_b: &[u32],
-    list: &mut [u32],
-) -> u64
-    requires { T (one_length (length firsts_a.now) (length seconds_a.now) (length firsts_b.now) (length seconds_b.now)) }
-    ensures { (result ≡ length (differing (grids firsts_a.now seconds_a.now firsts_b.now seconds_b.now)))
-        × (list.new
-        ≡ filled (differences from (grids firsts_a.now seconds_a.now firsts_b.now seconds_b.now)) list.old) }
-{
-    let mut count: u64 = 0;
-    let mut at = 0;
-    for i in 0..firsts_a.len() {
-        if differs(firsts_a, seconds_a, firsts_b, seconds_b, i) {
-            let six = difference(from, firsts_a, seconds_a, firsts_b, seconds_b, i);
-            at = list_one(list, at, six);
-            count += 1;
+impl<'a> Pair<'a> {
+    // 18 where the lengths are not all the same, 7 where they are not whole symbols, the first that fits.
+    fn new(
+        firsts_a: &'a [u32],
+        seconds_a: &'a [u32],
+        firsts_b: &'a [u32],
+        seconds_b: &'a [u32],
+    ) -> Result<Pair<'a>, Refusal>
+        ensures number { (answer_of result).number ≡ comparing_number (length firsts_a.now) (length seconds_a.now) (length firsts_b.now) (length seconds_b.now) }
+        ensures pair { IfOk result (λ p. p ≡ grids firsts_a.now seconds_a.now firsts_b.now seconds_b.now) }
+        ensures refused { IfErr result (λ e. ¬ (refusal_number e ≡ 0)) }
+    {
+        let cells = firsts_a.len();
+        if seconds_a.len() != cells || firsts_b.len() != cells || seconds_b.len() != cells {
+            return Err(Refusal::UnequalGrids);
         }
+        if cells % 4096 != 0 {
+            return Err(Refusal::WrongCells);
+        }
+        Ok(Pair {
+            firsts_a,
+            seconds_a,
+            firsts_b,
+            seconds_b,
+        })
     }
-    count
+
+    // How many cells each grid has.
+    fn cells(&self) -> usize
+        ensures { result ≡ length self.now.firsts_a }
+    {
+        self.firsts_a.len()
+    }
+
+    // Whether cell i differs: a part has other bits.
+    fn differs(&self, i: usize) -> bool
+        requires { i < length self.now.firsts_a }
+        ensures { result ≡ rule.differs self.now i }
+    {
+        let Pair {
+            firsts_a,
+            seconds_a,
+            firsts_b,
+            seconds_b,
+        } = *self;
+        firsts_a[i] != firsts_b[i] || seconds_a[i] != seconds_b[i]
+    }
+
+    // The six numbers of cell i, in grids that begin with the symbol `from`.
+    fn difference(&self, from: u32, i: usize) -> [u32; 6]
+        requires { i < length self.now.firsts_a }
+        ensures { result ≡ rule.difference from self.now i }
+    {
+        let Pair {
+            firsts_a,
+            seconds_a,
+            firsts_b,
+            seconds_b,
+        } = *self;
+        let symbol = (from as usize + i / 4096) % 4_294_967_296;
+        [
+            symbol as u32,
+            (i % 4096) as u32,
+            firsts_a[i],
+            seconds_a[i],
+            firsts_b[i],
+            seconds_b[i],
+        ]
+    }
+
+    // Lists the differences in rising order, as far as they fit, and answers how many there are.
+    fn list_all(&self, from: u32, list: &mut [u32]) -> u64
+        ensures count { result ≡ length (differing self.now) }
+        ensures listed { list.new ≡ filled (differences from self.now) list.old }
+    {
+        let mut count = 0;
+        // i is the cell's number in both grids, which a difference says.
+        for i in 0..self.cells() {
+            if self.differs(i) {
+                list_one(list, count, self.difference(from, i));
+                count += 1;
+            }
+        }
+        count as u64
+    }
 }
 
-// What the lengths of the four lists give: 18 not all the same, 7 not whole symbols, the first that fits; else 0.
-fn number(firsts_a: usize, seconds_a: usize, firsts_b: usize, seconds_b: usize) -> u32
-    ensures { result ≡ comparing_number firsts_a seconds_a firsts_b seconds_b }
+// Puts difference k at its place in the list, where it fits whole.
+fn list_one(list: &mut [u32], k: usize, difference: [u32; 6])
+    ensures { Gone list.old (place (length list.old) k) difference list.new (place (length list.old) (k + 1)) }
 {
-    if seconds_a != firsts_a {
-        return 18;
+    if k < list.len() / 6 {
+        list[6 * k..6 * k + 6].copy_from_slice(&difference);
     }
-    if firsts_b != firsts_a {
-        return 18;
-    }
-    if seconds_b != firsts_a {
-        return 18;
-    }
-    if firsts_a % 4096 != 0 {
-        return 7;
-    }
-    0
 }
 
 // Compares grids that begin with the symbol `from`: so the parts of a whole grid can be compared one after the other.
@@ -117,24 +131,12 @@ pub fn compare_from(
     firsts_b: &[u32],
     seconds_b: &[u32],
     differences: &mut [u32],
-) -> Comparison
+) -> Result<u64, Refusal>
     ensures { CompareRule from (grids firsts_a.now seconds_a.now firsts_b.now seconds_b.now)
-        differences.old differences.new result }
+        differences.old differences.new (comparison_of result) }
 {
-    let n = number(
-        firsts_a.len(),
-        seconds_a.len(),
-        firsts_b.len(),
-        seconds_b.len(),
-    );
-    if n != 0 {
-        return Comparison {
-            number: n,
-            count: 0,
-        };
-    }
-    let count = list_all(from, firsts_a, seconds_a, firsts_b, seconds_b, differences);
-    Comparison { number: 0, count }
+    let pair = Pair::new(firsts_a, seconds_a, firsts_b, seconds_b)?;
+    Ok(pair.list_all(from, differences))
 }
 
 // Compares whole grids.
@@ -144,9 +146,9 @@ pub fn compare(
     firsts_b: &[u32],
     seconds_b: &[u32],
     differences: &mut [u32],
-) -> Comparison
+) -> Result<u64, Refusal>
     ensures { CompareRule 0 (grids firsts_a.now seconds_a.now firsts_b.now seconds_b.now)
-        differences.old differences.new result }
+        differences.old differences.new (comparison_of result) }
 {
     compare_from(0, firsts_a, seconds_a, firsts_b, seconds_b, differences)
 }
