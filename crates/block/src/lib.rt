@@ -1,41 +1,42 @@
-// What sending and receiving share: the numbers that come first, and a whole block's scrambling.
+// What sending and receiving share: the refusals that come first, and a whole block's scrambling.
 #![tactic(auto)]
 
 ghost use Rattle.std.specs.Prelude.{◌≡◌, ◌*◌, ◌≤◌, length};
 ghost use Rattle.rules.specs.Bits.{row};
+ghost use Rattle.rules.specs.Answers.{answer_of};
+ghost use Rattle.rules.specs.Profile.{only};
 ghost use Rattle.rules.specs.Modes.{slot_bits};
 ghost use Rattle.rules.specs.Block as rule;
 ghost use Rattle.laws.specs.Holds.{Holds};
 ghost use Rattle.block.specs.Steps.{held, scrambled_row};
 
-use profile::only;
-use rules::{Answer, Profile};
+use rules::{Profile, Refusal};
 
-// 6, 7, the first that fits, else 0.
-fn lengths(k: u8, bytes: usize, firsts: usize, seconds: usize, cells: usize) -> u32
-    ensures { result ≡ rule.lengths k bytes firsts seconds cells }
+// The data are K packets long, and both lists hold so many cells; else the refusal, the first that fits.
+fn lengths(k: u8, bytes: usize, firsts: usize, seconds: usize, cells: usize) -> Result<(), Refusal>
+    ensures { answer_of result ≡ only (rule.lengths k bytes firsts seconds cells) }
 {
     if bytes != 122 * (k as usize) {
-        return 6;
+        return Err(Refusal::WrongData);
     }
-    if firsts != cells {
-        return 7;
+    if firsts != cells || seconds != cells {
+        return Err(Refusal::WrongCells);
     }
-    if seconds != cells {
-        return 7;
-    }
-    0
+    Ok(())
 }
 
-// What is at fault in the profile, 6, 7, the first that fits, else 0.
-pub fn early(p: Profile, bytes: usize, firsts: usize, seconds: usize, cells: usize) -> Answer
-    ensures { result ≡ rule.early p bytes firsts seconds cells }
+// What is at fault in the profile, then in the lengths: the first that fits.
+pub fn early(
+    p: Profile,
+    bytes: usize,
+    firsts: usize,
+    seconds: usize,
+    cells: usize,
+) -> Result<(), Refusal>
+    ensures { answer_of result ≡ rule.early p bytes firsts seconds cells }
 {
-    let a = profile::fault(p);
-    if a.number != 0 {
-        return a;
-    }
-    only(lengths(p.k, bytes, firsts, seconds, cells))
+    profile::fault(p)?;
+    lengths(p.k, bytes, firsts, seconds, cells)
 }
 
 // How many slots are scrambled among so many bits: all of a block, or none where the block isn't there whole.
@@ -43,9 +44,10 @@ fn slots_in(mode: u8, bits: usize) -> usize
     ensures { (slot_bits mode * result ≡ held mode bits) × (slot_bits mode * result ≤ bits) × (result ≤ 48) }
 {
     if bits < modes::block_bits(mode) {
-        return 0;
+        0
+    } else {
+        modes::slot_count(mode)
     }
-    modes::slot_count(mode)
 }
 
 // The bits of each slot, scrambled in place; of scrambled bits, the scrambling taken off again. Those past the block's stay, and all of them where the

@@ -19,6 +19,6 @@ pub returns-then-bits-block_bits : goal.returns-then-bits-block_bits
 returns-then-bits-block_bits c =
     none c.args.mode c.args.bits (omega (arith, c.block_bits.ensures.0))
 
-pub returns : goal.returns
-returns c =
+pub returns-else-bits-block_bits : goal.returns-else-bits-block_bits
+returns-else-bits-block_bits c =
     all c.args.mode c.args.bits _ c.slot_count.ensures.0 (omega (arith, c.block_bits.ensures.0))
