@@ -7,10 +7,11 @@ ghost use Rattle.rules.specs.Field.{◌⊕◌, ◌⊗◌};
 
 mod tables;
 
+use std::ops::{Add, Mul};
 use tables::{high_multiples, low_multiples, mask};
 
 // An element of the field: bit i of the byte is the coefficient of x^i.
-#[derive(Clone, Copy)]
+#[derive(Clone, Copy, Debug, PartialEq, Eq)]
 pub struct Element(pub u8);
 
 impl Element {
@@ -61,5 +62,25 @@ impl Element {
         ensures { result.0 ≡ rule.inverse self.0 }
     {
         self.power(254)
+    }
+}
+
+impl Add for Element {
+    type Output = Element;
+
+    ghost add_gives = { λ a b r. r.0 ≡ a.0 ⊕ b.0 };
+
+    fn add(self, other: Element) -> Element {
+        self.sum(other)
+    }
+}
+
+impl Mul for Element {
+    type Output = Element;
+
+    ghost mul_gives = { λ a b r. r.0 ≡ a.0 ⊗ b.0 };
+
+    fn mul(self, other: Element) -> Element {
+        self.product(other)
     }
 }

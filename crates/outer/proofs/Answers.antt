@@ -13,8 +13,9 @@ use borrow.Author.Tests.{ne_eqb}
 use Rattle.rules.specs.Bits.{pick, row}
 use Rattle.rules.specs.Answers.{outcome_number}
 use Rattle.rules.specs.Outer.{is_k, column, encoded, Restored, ParityMade}
-use Rattle.rules.specs.declared.Outcome.{Outcome}
-use Rattle.rules.specs.declared.Outcome.TheVariants.{Done, BadK, BadLength, TooManyLost, NoCodeword}
+use Rattle.std.specs.Prelude.{⊤, Result, Ok, Err}
+use Rattle.rules.specs.declared.OuterError.{OuterError}
+use Rattle.rules.specs.declared.OuterError.TheVariants.{BadK, BadLength, TooManyLost, NoCodeword}
 use Rattle.outer.proofs.Roots.{rate}
 use Rattle.outer.proofs.Solve.{unique}
 
@@ -76,18 +77,19 @@ parity-answered {k} {before = before} t long made =
 -- ---- one answer only
 
 -- an outcome goes by its number
-outcome-of : ℕ → Outcome
-outcome-of n = pick (eqb n 0) Done (pick (eqb n 43) BadK (pick (eqb n 6) BadLength (pick (eqb n 9) TooManyLost NoCodeword)))
+outcome-of : ℕ → Result ⊤ OuterError
+outcome-of n =
+    pick (eqb n 0) (Ok _) (Err (pick (eqb n 43) BadK (pick (eqb n 6) BadLength (pick (eqb n 9) TooManyLost NoCodeword))))
 
-numbered : (o : Outcome) → outcome-of (outcome_number o) ≡ o
+numbered : (o : Result ⊤ OuterError) → outcome-of (outcome_number o) ≡ o
 unfolding outcome-of
-numbered Done = refl
-numbered BadK = refl
-numbered BadLength = refl
-numbered TooManyLost = refl
-numbered NoCodeword = refl
+numbered (Ok x) = refl
+numbered (Err BadK) = refl
+numbered (Err BadLength) = refl
+numbered (Err TooManyLost) = refl
+numbered (Err NoCodeword) = refl
 
-number-one : {o o' : Outcome} → outcome_number o ≡ outcome_number o' → o ≡ o'
+number-one : {o o' : Result ⊤ OuterError} → outcome_number o ≡ outcome_number o' → o ≡ o'
 number-one {o} {o'} e = sym (numbered o) ∙ ap outcome-of e ∙ numbered o'
 
 -- two blocks with the same columns are the same
@@ -153,13 +155,13 @@ one-restoring k lost fits (Restored.no_codeword t b few j l none e) (Restored.ba
 one-restoring k lost fits (Restored.no_codeword t b few j l none e) (Restored.too_many_lost t' b' many e') = absurd (omega arith)
 
 -- what the two calls answer is an outcome: it is the same, too
-pub parity-outcome : (k : ℕ) (o o' : Outcome) {before after after' : List ℕ}
+pub parity-outcome : (k : ℕ) (o o' : Result ⊤ OuterError) {before after after' : List ℕ}
     → ParityMade k before after (outcome_number o)
     → ParityMade k before after' (outcome_number o')
     → (o ≡ o') × (after ≡ after')
 parity-outcome k o o' x y = let e = one-parity k x y in (number-one e.0, e.1)
 
-pub restoring-outcome : (k lost : ℕ) (o o' : Outcome) {before after after' : List ℕ} → lost < 2 ^ 16
+pub restoring-outcome : (k lost : ℕ) (o o' : Result ⊤ OuterError) {before after after' : List ℕ} → lost < 2 ^ 16
     → Restored k lost before after (outcome_number o)
     → Restored k lost before after' (outcome_number o')
     → (o ≡ o') × (after ≡ after')

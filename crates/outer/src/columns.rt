@@ -1,5 +1,5 @@
 // Columns of a block, read and written; bit p of lost is packet p's.
-ghost use Rattle.std.specs.Prelude.{◌≡◌, ◌<◌, length};
+ghost use Rattle.std.specs.Prelude.{◌≡◌, ◌<◌};
 ghost use Rattle.rules.specs.Bits.{row};
 ghost use Rattle.rules.specs.Outer.{column};
 ghost use Rattle.laws.specs.Holds.{Holds};
@@ -15,8 +15,8 @@ pub(crate) fn lost_at(lost: u16, p: usize) -> bool
 }
 
 // Column j, with zero for the lost bytes.
-pub(crate) fn kept(lost: u16, block: &[u8], j: usize) -> [u8; 16]
-    requires { (length block.now ≡ 1952) × (j < 122) }
+pub(crate) fn kept(lost: u16, block: &[u8; 1952], j: usize) -> [u8; 16]
+    requires { j < 122 }
     ensures { Holds 0 16 (solve.kept lost (column block.now j)) result }
 {
     let mut c = [0u8; 16];
@@ -29,20 +29,11 @@ pub(crate) fn kept(lost: u16, block: &[u8], j: usize) -> [u8; 16]
 }
 
 // Writes column j.
-pub(crate) fn put(c: [u8; 16], j: usize, block: &mut [u8])
-    requires { (length block.old ≡ 1952) × (j < 122) }
+pub(crate) fn put(c: [u8; 16], j: usize, block: &mut [u8; 1952])
+    requires { j < 122 }
     ensures { Put (row c) j block.old block.new }
 {
     for p in 0..16 {
         block[122 * p + j] = c[p];
-    }
-}
-
-pub(crate) fn copy(from: &[u8], to: &mut [u8])
-    requires { length from.now ≡ length to.old }
-    ensures { to.new ≡ from.now }
-{
-    for i in 0..from.len() {
-        to[i] = from[i];
     }
 }

@@ -2,7 +2,7 @@
 #![tactic(auto)]
 
 ghost use Rattle.std.specs.Prelude.{◌≡◌};
-ghost use Rattle.rules.specs.Outer.{is_k, ParityMade, Restored};
+ghost use Rattle.rules.specs.Outer.{ParityMade, Restored};
 ghost use Rattle.rules.specs.Answers.{outcome_number};
 
 mod columns;
@@ -11,67 +11,44 @@ mod matrix;
 mod products;
 mod solution;
 
-use rules::Outcome;
-
-fn is_k(k: u8) -> bool
-    ensures { result ≡ is_k k }
-{
-    match k {
-        8 | 12 | 14 => true,
-        _ => false,
-    }
-}
-
-// What an outcome's number is on paper.
-pub fn number(o: Outcome) -> u32
-    ensures { result ≡ outcome_number o }
-{
-    match o {
-        Outcome::Done => 0,
-        Outcome::BadK => 43,
-        Outcome::BadLength => 6,
-        Outcome::TooManyLost => 9,
-        Outcome::NoCodeword => 10,
-    }
-}
+use division::Parity;
+use rules::OuterError;
 
 // Fills the last 16 - k packets with the parity of the k before them.
-pub fn fill_parity(k: u8, block: &mut [u8]) -> Outcome
+pub fn fill_parity(k: u8, block: &mut [u8]) -> Result<(), OuterError>
     ensures { ParityMade k block.old block.new (outcome_number result) }
 {
-    if !is_k(k) {
-        return Outcome::BadK;
-    }
-    if block.len() != 1952 {
-        return Outcome::BadLength;
-    }
-    let r = (16 - k) as usize;
+    let Some(parity) = Parity::of(k) else {
+        return Err(OuterError::BadK);
+    };
+    let Some(block) = block.as_mut_array::<1952>() else {
+        return Err(OuterError::BadLength);
+    };
     for j in 0..122 {
         let c = columns::kept(0, block, j);
-        columns::put(division::encoded(r, c), j, block);
+        columns::put(parity.encoded(c), j, block);
     }
-    Outcome::Done
+    Ok(())
 }
 
 // Works out the lost packets from those that aren't; bit p of lost is packet p's. Nothing is written before all columns are known to be codewords.
-pub fn restore(k: u8, lost: u16, block: &mut [u8]) -> Outcome
+pub fn restore(k: u8, lost: u16, block: &mut [u8]) -> Result<(), OuterError>
     ensures { Restored k lost block.old block.new (outcome_number result) }
 {
-    if !is_k(k) {
-        return Outcome::BadK;
+    let Some(parity) = Parity::of(k) else {
+        return Err(OuterError::BadK);
+    };
+    let Some(block) = block.as_mut_array::<1952>() else {
+        return Err(OuterError::BadLength);
+    };
+    if lost.count_ones() > parity.r as u32 {
+        return Err(OuterError::TooManyLost);
     }
-    if block.len() != 1952 {
-        return Outcome::BadLength;
-    }
-    let r = (16 - k) as usize;
-    if u16::count_ones(lost) > (16 - k) as u32 {
-        return Outcome::TooManyLost;
-    }
-    let m = matrix::rows(r, lost);
+    let m = matrix::rows(parity.r, lost);
     let mut out = [0u8; 1952];
-    if !solution::all_solved(r, lost, m, block, &mut out) {
-        return Outcome::NoCodeword;
+    if !solution::all_solved(parity, lost, m, block, &mut out) {
+        return Err(OuterError::NoCodeword);
     }
-    columns::copy(&out, block);
-    Outcome::Done
+    block.copy_from_slice(&out);
+    Ok(())
 }

@@ -1,5 +1,5 @@
 // The columns worked out, by the matrix for the lost packets.
-ghost use Rattle.std.specs.Prelude.{◌≡◌, ◌<◌, ◌≤◌, length};
+ghost use Rattle.std.specs.Prelude.{◌≡◌, ◌<◌, ◌≤◌};
 ghost use Rattle.std.specs.Int.Count.{ones};
 ghost use Rattle.rules.specs.Bits.{row};
 ghost use Rattle.rules.specs.Field.{◌⊕◌, ◌⊗◌};
@@ -11,7 +11,7 @@ ghost use Rattle.outer.specs.Solve.{sum};
 ghost use Rattle.outer.specs.Steps.{Rows, Works};
 
 use super::columns::{kept, lost_at, put};
-use super::division::is_codeword;
+use super::division::Parity;
 use super::products::times_plus;
 use field::Element;
 
@@ -65,8 +65,15 @@ fn dot(r: usize, a: [u8; 8], b: [u8; 8]) -> u8
 }
 
 // Column j, with the only bytes for the lost packets that can make a codeword; x has the roots.
-fn solved(r: usize, lost: u16, x: [u8; 8], m: [[u8; 8]; 8], block: &[u8], j: usize) -> [u8; 16]
-    requires { (r ≤ 8) × (ones lost ≤ 8) × Holds 0 8 (rule.root r) x × Rows 16 r lost m × (length block.now ≡ 1952) × (j < 122) }
+fn solved(
+    r: usize,
+    lost: u16,
+    x: [u8; 8],
+    m: [[u8; 8]; 8],
+    block: &[u8; 1952],
+    j: usize,
+) -> [u8; 16]
+    requires { (r ≤ 8) × (ones lost ≤ 8) × Holds 0 8 (rule.root r) x × Rows 16 r lost m × (j < 122) }
     ensures { Holds 0 16 (solve.solved r lost (column block.now j)) result }
 {
     let mut c = kept(lost, block, j);
@@ -82,14 +89,20 @@ fn solved(r: usize, lost: u16, x: [u8; 8], m: [[u8; 8]; 8], block: &[u8], j: usi
 }
 
 // All columns to out, up to one that has no codeword.
-pub(crate) fn all_solved(r: usize, lost: u16, m: [[u8; 8]; 8], block: &[u8], out: &mut [u8]) -> bool
-    requires { (r ≤ 8) × (ones lost ≤ 8) × Rows 16 r lost m × (length block.now ≡ 1952) × (length out.old ≡ 1952) }
-    ensures { Works r lost block.now out.new result }
+pub(crate) fn all_solved(
+    parity: Parity,
+    lost: u16,
+    m: [[u8; 8]; 8],
+    block: &[u8; 1952],
+    out: &mut [u8; 1952],
+) -> bool
+    requires { (ones lost ≤ 8) × Rows 16 parity.r lost m }
+    ensures { Works parity.r lost block.now out.new result }
 {
-    let x = roots(r);
+    let x = roots(parity.r);
     for j in 0..122 {
-        let c = solved(r, lost, x, m, block, j);
-        if !is_codeword(r, c) {
+        let c = solved(parity.r, lost, x, m, block, j);
+        if !parity.is_codeword(c) {
             return false;
         }
         put(c, j, out);

@@ -1,6 +1,5 @@
 -- The loop's invariant: the first j columns are codewords, and the others are as they were.
-use mathlib.Core.Bool.{not}
-use mathlib.Core.Path.{◌≡◌, sym, ap, ◌∙◌, subst}
+use mathlib.Core.Path.{◌≡◌, sym, ap, ◌∙◌, subst, subst₂}
 use mathlib.Core.List.{List}
 use Prim.Native.Nat.{ℕ, ◌+◌, ◌-◌, ◌%◌, ◌^◌, ◌≤◌, ◌<◌}
 use native.Mathlib.Nat.{zero-div}
@@ -8,16 +7,17 @@ use native.Mathlib.Decide.{ℕ_discrete, dec_lt}
 use lib.Dec.{T}
 use borrow.Author.Tests.{ne_eqb}
 use Rattle.rules.specs.Bits.{row}
-use Rattle.rules.specs.Outer.{column, encoded, marked, is_k}
+use Rattle.rules.specs.Outer.{column, encoded, marked}
+use lib.ListN.{length}
 use Rattle.laws.specs.Holds.{Holds}
 use Rattle.outer.specs.Solve.{kept}
 use Rattle.outer.specs.Steps.{Put}
 use Rattle.laws.specs.Filled.{up_to, up_to-below, up_to-from}
-use Rattle.outer.proofs.Roots.{k-range, passed, refused, encoded-same}
-use Rattle.outer.proofs.Answers.{parity-bad-k, parity-bad-length, parity-done}
+use Rattle.outer.proofs.Roots.{encoded-same}
+use Rattle.outer.proofs.Answers.{parity-done}
 use native.Mathlib.Omega.{arith}
 use Rattle.outer.proofs.fill_parity.Invariants.{Made}
-use Rattle.outer.proofs.fill_parity.Goals.{After-is_k, Else-not-is_k}
+use lib.ListN.{length}
 use Rattle.outer.proofs.fill_parity.Goals as goal
 
 -- where no packet is lost, all bytes are kept
@@ -47,53 +47,32 @@ made_more r j before block after c w lt made hc hw put i l p m = go (ℕ_discret
     go (no ne) (yes h) = put.there i l ne p m ∙ made i l p m ∙ up_to-below f g j i h ∙ sym (up_to-below f g (j + 1) i (omega arith))
     go (no ne) (no h) = put.there i l ne p m ∙ made i l p m ∙ up_to-from f g j i (omega arith) ∙ sym (up_to-from f g (j + 1) i (omega arith))
 
-right : (c : Else-not-is_k) → T (is_k c.args.k)
-right c = passed c.is_k.ensures (ap not c.if-not-is_k.false)
-
-range : (c : Else-not-is_k) → (8 ≤ c.args.k) × (c.args.k ≤ 14)
-range c = k-range c.args.k (right c)
-
-pub returns-then-not-is_k : goal.returns-then-not-is_k
-returns-then-not-is_k c = parity-bad-k (refused c.is_k.ensures (ap not c.if-not-is_k.true))
-
-pub returns-then-block-ne1952 : goal.returns-then-block-ne1952
-returns-then-block-ne1952 c = parity-bad-length (right (goal.at.returns-then-block-ne1952 c).Else-not-is_k) c.if-block-ne1952.true
-
-pub overflow_sub-r : goal.overflow_sub-r
-overflow_sub-r c = omega (arith, range (goal.at.overflow_sub-r c).Else-not-is_k)
+-- what the whole block holds
+made-all : (r k : ℕ) (before now after : List ℕ) → r ≡ 16 - k → now ≡ before → (n : ℕ) → 122 ≤ n → Made r n now after
+    → (j : ℕ) → j < 122 → (p : ℕ) → p < 16 → column after j p ≡ encoded (16 - k) (column before j) p
+made-all r k before now after e same n all made j l p m =
+    subst₂ (λ (q : ℕ) (b : List ℕ). column after j p ≡ encoded q (column b j) p) e same
+    (made j l p m ∙ up_to-below (λ i. encoded r (column now i) p) (λ i. column now i p) n j (omega arith))
 
 pub loop-j-init : goal.loop-j-init
 loop-j-init c =
-    let a = c.args in
-    let b = a.block.now in
-    (omega arith, c.if-block-ne1952.false, λ j l p m. sym (up_to-from (λ i. encoded (16 - a.k) (column b i) p) (λ i. column b i p) 0 j (omega arith)))
-
-pub kept-c-requires : goal.kept-c-requires
-kept-c-requires c = (c.loop-j.invariant.1, omega arith)
-
-pub encoded-requires : goal.encoded-requires
-encoded-requires c = omega (arith, range (goal.at.encoded-requires c).Else-not-is_k)
-
-pub put-requires : goal.put-requires
-put-requires c = (c.loop-j.invariant.1, omega arith)
+    let b = c.in-Some-as_mut_array.block.now in
+    let r = c.in-Some.parity.r in
+    let whole = c.in-Some-as_mut_array.ensures.cases in
+    (omega arith, ap length whole.same ∙ whole.long, λ j l p m. sym (up_to-from (λ i. encoded r (column b i) p) (λ i. column b i p) 0 j (omega arith)))
 
 pub loop-j-preserved : goal.loop-j-preserved
 loop-j-preserved c =
-    let l = c.loop-j in
-    let a = c.args in (
+    let l = c.loop-j in (
       omega arith,
       c.put.ensures.long,
-      made_more (16 - a.k) l.j a.block.now l.block _ c.kept-c.result c.encoded.result (omega arith)
+      made_more c.in-Some.parity.r l.j c.in-Some-as_mut_array.block.now l.block _ c.kept-c.result c.encoded.result (omega arith)
           l.invariant.2 c.kept-c.ensures c.encoded.ensures c.put.ensures,
     )
-
-pub shape_of-block : goal.shape_of-block
-shape_of-block c = c.loop-j.invariant.1 ∙ sym c.if-block-ne1952.false
 
 pub returns : goal.returns
 returns c =
     let l = c.loop-j in
-    let a = c.args in
-    let b = a.block.now in
-    parity-done (right (goal.at.returns c).Else-not-is_k) c.if-block-ne1952.false l.invariant.1
-    (λ j m p n. l.invariant.2 j m p n ∙ up_to-below (λ i. encoded (16 - a.k) (column b i) p) (λ i. column b i p) l.j j (omega arith))
+    let whole = c.in-Some-as_mut_array.ensures.cases in
+    parity-done (subst T c.in-Some.ensures.some tt) whole.long l.invariant.1
+    (made-all c.in-Some.parity.r c.args.k c.args.block.now c.in-Some-as_mut_array.block.now l.block c.in-Some.ensures.rest whole.same l.j (omega arith) l.invariant.2)

@@ -1,7 +1,7 @@
 -- The loop's invariant: the first j columns are codewords, and the others are as they were.
 use mathlib.Core.Path.{◌≡◌}
 use mathlib.Core.List.{List}
-use Prim.Native.Nat.{ℕ, ◌-◌, ◌≤◌, ◌<◌}
+use Prim.Native.Nat.{ℕ, ◌≤◌, ◌<◌}
 use lib.ListN.{length}
 use Rattle.rules.specs.Outer.{column, encoded}
 use Rattle.laws.specs.Filled.{up_to}
@@ -14,4 +14,4 @@ Made r n before after =
 
 abbrev pub invariant-loop-j : goal.invariant-loop-j
 invariant-loop-j l =
-    (l.j ≤ 122) × (length l.block ≡ 1952) × Made (16 - l.k) l.j l.initial.block l.block
+    (l.j ≤ 122) × (length l.block ≡ 1952) × Made l.parity.r l.j l.initial.block l.block

@@ -1,5 +1,5 @@
 -- The loop's invariant: the first p bytes of the column are written.
-use mathlib.Core.Path.{◌≡◌, refl, sym, ◌∙◌}
+use mathlib.Core.Path.{◌≡◌, refl, ◌∙◌}
 use Prim.Native.Nat.{ℕ, ◌+◌, ◌*◌, ◌<◌}
 use lib.ListN.{set, length-set}
 use lib.Seq.{get_or-set_same, get_or-set_other}
@@ -14,7 +14,7 @@ apart : (p q i j : ℕ) → i < 122 → j < 122 → ¬ (i ≡ j) → ¬ (122 * q
 apart p q i j a b ne e = omega arith
 
 pub loop-p-init : goal.loop-p-init
-loop-p-init c = (omega arith, c.requires.0, (λ q l. absurd (omega arith)), λ i l ne q m. refl)
+loop-p-init c = (omega arith, omega arith, (λ q l. absurd (omega arith)), λ i l ne q m. refl)
 
 pub bounds-block-p : goal.bounds-block-p
 bounds-block-p c = omega (arith, c.loop-p.invariant.1)
@@ -33,9 +33,6 @@ loop-p-preserved c =
           (get_or-set_same l.block at v 0 (omega (arith, l.invariant.1))),
       λ i m ne q n. get_or-set_other l.block at (122 * q + i) v 0 (apart l.p q i j m (omega arith) ne) ∙ l.invariant.3 i m ne q n,
     )
-
-pub shape_of-block : goal.shape_of-block
-shape_of-block c = c.loop-p.invariant.1 ∙ sym c.requires.0
 
 pub returns : goal.returns
 returns c =

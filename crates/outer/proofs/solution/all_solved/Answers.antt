@@ -21,41 +21,32 @@ column-more r lost j block out out' c most lt before h good put =
     (codeword-same most (λ p m. sym (h.each p m)) good, λ p m. put.here p m ∙ h.each p m)
 
 pub loop-j-init : goal.loop-j-init
-loop-j-init c = (omega arith, c.requires.4, λ i l. absurd (omega arith))
+loop-j-init c = (omega arith, omega arith, λ i l. absurd (omega arith))
 
 pub solved-c-requires : goal.solved-c-requires
 solved-c-requires c =
     let h = c.requires in
-    (h.0, h.1, c.roots-x.ensures, h.2, h.3, omega arith)
-
-pub shape_of-out-then-not-is_codeword : goal.shape_of-out-then-not-is_codeword
-shape_of-out-then-not-is_codeword c = c.loop-j.invariant.1 ∙ sym c.requires.4
+    (omega arith, h.0, c.roots-x.ensures, h.1, omega arith)
 
 pub returns-then-not-is_codeword : goal.returns-then-not-is_codeword
 returns-then-not-is_codeword c =
     let l = c.loop-j in
     let s = c.solved-c in
     let t = c.is_codeword in
-    let none = subst (Says (Codeword c.args.r (row s.result))) (c.if-not-is_codeword.true) t.ensures in
-    (l.j, omega arith, λ w. none (codeword-same c.requires.0 s.ensures.each w))
-
-pub put-requires : goal.put-requires
-put-requires c = (c.loop-j.invariant.1, omega arith)
+    let none = subst (Says (Codeword c.args.parity.r (row s.result))) (c.if-not-is_codeword.true) t.ensures in
+    (l.j, omega arith, λ w. none (codeword-same (omega arith) s.ensures.each w))
 
 pub loop-j-preserved : goal.loop-j-preserved
 loop-j-preserved c =
     let l = c.loop-j in
     let s = c.solved-c in
     let t = c.is_codeword in
-    let good = subst (Says (Codeword c.args.r (row s.result))) (c.if-not-is_codeword.false) t.ensures in (
+    let good = subst (Says (Codeword c.args.parity.r (row s.result))) (c.if-not-is_codeword.false) t.ensures in (
       omega arith,
       c.put.ensures.long,
-      column-more c.args.r c.args.lost l.j c.args.block.now l.out _ s.result c.requires.0 (omega arith)
+      column-more c.args.parity.r c.args.lost l.j c.args.block.now l.out _ s.result (omega arith) (omega arith)
           l.invariant.2 s.ensures good c.put.ensures,
     )
-
-pub shape_of-out : goal.shape_of-out
-shape_of-out c = c.loop-j.invariant.1 ∙ sym c.requires.4
 
 pub returns : goal.returns
 returns c = λ j l. c.loop-j.invariant.2 j (omega arith)

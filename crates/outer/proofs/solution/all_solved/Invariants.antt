@@ -6,4 +6,4 @@ use Rattle.outer.specs.Steps.{Solved}
 use Rattle.outer.proofs.solution.all_solved.Given as goal
 
 abbrev pub invariant-loop-j : goal.invariant-loop-j
-invariant-loop-j l = (l.j ≤ 122) × (length l.out ≡ 1952) × Solved l.j l.r l.lost l.block l.out
+invariant-loop-j l = (l.j ≤ 122) × (length l.out ≡ 1952) × Solved l.j l.parity.r l.lost l.block l.out

@@ -61,7 +61,7 @@ room c =
     omega (arith, place-lt a.lost l.p (omega arith) (omega arith) (omega arith) on, l.invariant.1.place)
 
 pub kept-c-requires : goal.kept-c-requires
-kept-c-requires c = (c.requires.4, c.requires.5)
+kept-c-requires c = c.requires.4
 
 pub loop-p-init : goal.loop-p-init
 unfolding tally

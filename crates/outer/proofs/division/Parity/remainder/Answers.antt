@@ -11,7 +11,7 @@ use Rattle.rules.specs.Field.{◌⊕◌, ◌⊗◌}
 use Rattle.rules.specs.Outer.{remainder, generator}
 use Rattle.outer.specs.Steps.{Starts, below, divided}
 use native.Mathlib.Omega.{arith}
-use Rattle.outer.proofs.division.remainder.Goals as goal
+use Rattle.outer.proofs.division.Parity.remainder.Goals as goal
 
 below-same : (r : ℕ) {f g : ℕ → ℕ} → ((i : ℕ) → i < r → f i ≡ g i) → (i : ℕ) → below r f i ≡ below r g i
 below-same r {f} {g} e i = go (dec_lt i r)
@@ -34,7 +34,7 @@ pub loop-p-preserved : goal.loop-p-preserved
 loop-p-preserved c =
     let l = c.loop-p in
     let a = c.args in
-    (omega arith, next a.r l.p (row a.c) l.s c.step-next.result l.invariant.1 c.step-next.ensures)
+    (omega arith, next a.self.r l.p (row a.c) l.s c.step-next.result l.invariant.1 c.step-next.ensures)
 
 pub returns : goal.returns
-returns c = let l = c.loop-p in let end : l.p ≡ 16 - c.args.r = omega arith in rw end at l.invariant.1
+returns c = let l = c.loop-p in let end : l.p ≡ 16 - c.args.self.r = omega arith in rw end at l.invariant.1

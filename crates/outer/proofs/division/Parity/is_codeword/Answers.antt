@@ -5,24 +5,24 @@ use borrow.Author.Count.{below_more}
 use Rattle.rules.specs.Bits.{row}
 use Rattle.laws.specs.Bytes.{byte_at}
 use native.Mathlib.Omega.{arith}
-use Rattle.outer.proofs.division.is_codeword.Goals as goal
+use Rattle.outer.proofs.division.Parity.is_codeword.Goals as goal
 
 pub loop-q-init : goal.loop-q-init
 loop-q-init c = (omega arith, λ i m. absurd (omega arith))
 
-pub returns-then-c-r : goal.returns-then-c-r
-returns-then-c-r c =
+pub returns-then-c-self : goal.returns-then-c-self
+returns-then-c-self c =
     let l = c.loop-q in
-    let r = c.args.r in
+    let r = c.args.self.r in
     let lt : l.q < r = omega arith in
-    λ w. c.if-c-r.true (w.parity l.q lt ∙ sym (c.remainder-s.ensures l.q lt))
+    λ w. c.if-c-self.true (w.parity l.q lt ∙ sym (c.remainder-s.ensures l.q lt))
 
 pub loop-q-preserved : goal.loop-q-preserved
 loop-q-preserved c =
     let l = c.loop-q in
     let a = c.args in
     let s = c.remainder-s.result in
-    (omega arith, below_more (λ (i : ℕ). row a.c (16 - a.r + i) ≡ row s i) l.q l.invariant.1 c.if-c-r.false)
+    (omega arith, below_more (λ (i : ℕ). row a.c (16 - a.self.r + i) ≡ row s i) l.q l.invariant.1 c.if-c-self.false)
 
 pub returns : goal.returns
 returns c =

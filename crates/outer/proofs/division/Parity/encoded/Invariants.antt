@@ -4,7 +4,7 @@ use Rattle.rules.specs.Bits.{row}
 use Rattle.rules.specs.Outer.{encoded}
 use Rattle.laws.specs.Holds.{Holds}
 use Rattle.laws.specs.Filled.{up_to}
-use Rattle.outer.proofs.division.encoded.Given as goal
+use Rattle.outer.proofs.division.Parity.encoded.Given as goal
 
 abbrev pub invariant-loop-i : goal.invariant-loop-i
-invariant-loop-i l = (l.i ≤ l.r) × Holds 0 16 (up_to (l.k + l.i) (encoded l.r (row l.initial.w)) (row l.initial.w)) l.w
+invariant-loop-i l = (l.i ≤ l.fn.self.r) × Holds 0 16 (up_to (l.k + l.i) (encoded l.fn.self.r (row l.initial.w)) (row l.initial.w)) l.w

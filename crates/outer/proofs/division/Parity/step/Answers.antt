@@ -8,10 +8,10 @@ use Rattle.field.proofs.Laws.{⊕-comm}
 use Rattle.outer.specs.Steps.{below, divided}
 use Rattle.laws.specs.Filled.{up_to-below, holds-next, holds-new}
 use native.Mathlib.Omega.{arith}
-use Rattle.outer.proofs.division.step.Goals as goal
+use Rattle.outer.proofs.division.Parity.step.Goals as goal
 
 pub loop-i-init : goal.loop-i-init
-loop-i-init c = let a = c.args in (omega arith, holds-new 8 (divided a.r (row a.s) a.d))
+loop-i-init c = let a = c.args in (omega arith, holds-new 8 (divided a.self.r (row a.s) a.d))
 
 pub loop-i-preserved : goal.loop-i-preserved
 loop-i-preserved c =
@@ -19,14 +19,14 @@ loop-i-preserved c =
     let a = c.args in
     let q : ℕ = a.d ⊕ row a.s 0 in
     let lt : l.i < 8 = omega arith in
-    let stored : c.times_plus.result ≡ divided a.r (row a.s) a.d l.i =
+    let stored : c.times_plus.result ≡ divided a.self.r (row a.s) a.d l.i =
     c.times_plus.ensures ∙ ⊕-comm _ c.below.result
-    ∙ ap₂ (λ (x y : ℕ). x ⊕ q ⊗ y) (c.below.ensures ∙ ap (below a.r (row a.s)) (add-one l.i))
+    ∙ ap₂ (λ (x y : ℕ). x ⊕ q ⊗ y) (c.below.ensures ∙ ap (below a.self.r (row a.s)) (add-one l.i))
     (c.generator-g.ensures.each l.i lt) in
-    (omega arith, holds-next (divided a.r (row a.s) a.d) (λ k. 0) 0 l.i _ lt stored l.invariant.1)
+    (omega arith, holds-next (divided a.self.r (row a.s) a.d) (λ k. 0) 0 l.i _ lt stored l.invariant.1)
 
 pub returns : goal.returns
 returns c =
     let l = c.loop-i in
     let a = c.args in
-    λ i m. l.invariant.1.each i (omega arith) ∙ up_to-below (divided a.r (row a.s) a.d) (λ k. 0) l.i i (omega arith)
+    λ i m. l.invariant.1.each i (omega arith) ∙ up_to-below (divided a.self.r (row a.s) a.d) (λ k. 0) l.i i (omega arith)
