@@ -2,7 +2,7 @@
 use lib.Ieee.{nan}
 use Rattle.rules.specs.Points.{zero_part}
 use Rattle.laws.specs.Lists.{any-default}
-use Rattle.deciding.proofs.point_in.Goals as goal
+use Rattle.deciding.proofs.lines.point_in.Goals as goal
 
 pub returns : goal.returns
 returns c =
