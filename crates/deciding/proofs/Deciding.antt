@@ -1,7 +1,11 @@
 -- Decisions as the code makes them.
 use mathlib.Core.Path.{◌≡◌, refl, sym, ◌∙◌}
 use mathlib.Core.Bool.{Bool, true, false, ◌&&◌, ◌||◌}
-use Prim.Native.Nat.{ℕ, ◌+◌, ◌*◌, ◌<◌, ◌≤◌}
+use Prim.Native.Nat.{ℕ, ◌+◌, ◌*◌, ◌%◌, ◌^◌, ◌<◌, ◌≤◌, min}
+use native.Mathlib.Decide.{ℕ_discrete, dec_lt}
+use native.Mathlib.Omega.{arith}
+use Rattle.std.proofs.Math.Nat.{min-eq_left, min-eq_right}
+use Rattle.rules.specs.Pieces.{choices}
 use lib.Dec.{ltb}
 use lib.Ieee.{Float, neg, lt}
 use Rattle.rules.specs.Bits.{pick}
@@ -38,8 +42,25 @@ module _ (level floor a : Float) where
       go false false false true = refl
       go false false false false = refl
 
-  pub decide-sum : sum ≤ 4 → sum ≡ decide 2 level floor a
-  decide-sum h = sym (pick-ge 4 sum 4 sum h) ∙ number
+  pub decide-min : min sum 4 ≡ decide 2 level floor a
+  decide-min = go (dec_lt 4 sum)
+    where
+      go : Dec (4 < sum) → min sum 4 ≡ decide 2 level floor a
+      go (yes h) = min-eq_right (omega arith) ∙ sym (pick-lt 4 sum 4 sum h) ∙ number
+      go (no h) = min-eq_left (omega arith) ∙ sym (pick-ge 4 sum 4 sum (omega arith)) ∙ number
 
-  pub decide-over : 4 < sum → 4 ≡ decide 2 level floor a
-  decide-over h = sym (pick-lt 4 sum 4 sum h) ∙ number
+-- two decisions in a byte, as the code makes it
+pub cell-fits : (w a b : ℕ) → 1 ≤ w → w ≤ 2 → a < choices w → b < choices w
+    → ((1 * 2 ^ w % 256 + 1) * b < 256) × (a + (1 * 2 ^ w % 256 + 1) * b < 256)
+cell-fits w a b l m p q = go (ℕ_discrete w 1)
+  where
+    go : Dec (w ≡ 1) → ((1 * 2 ^ w % 256 + 1) * b < 256) × (a + (1 * 2 ^ w % 256 + 1) * b < 256)
+    go (yes e) =
+        let p' : a < choices 1 = rw e at p in
+        let q' : b < choices 1 = rw e at q in
+        rw e (omega arith, omega arith)
+    go (no n) =
+        let e : w ≡ 2 = omega arith in
+        let p' : a < choices 2 = rw e at p in
+        let q' : b < choices 2 = rw e at q in
+        rw e (omega arith, omega arith)

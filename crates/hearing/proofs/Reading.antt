@@ -1,13 +1,13 @@
 -- The bits of a slot among the bytes of the grid's cells, and that these decide as the cells do.
 use mathlib.Core.Path.{◌≡◌, sym, ◌∙◌, ap, ap₂, subst}
 use mathlib.Core.List.{List}
-use Prim.Native.Nat.{ℕ, ◌+◌, ◌*◌, ◌/◌, ◌%◌, ◌<◌}
+use Prim.Native.Nat.{ℕ, ◌+◌, ◌*◌, ◌/◌, ◌%◌, ◌^◌, ◌<◌, ◌≤◌}
 use native.Mathlib.Decide.{ℕ_discrete}
-use native.Mathlib.Nat.{add_comm, div-lt_iff_lt-mul}
+use native.Mathlib.Nat.{add_comm, div-add-mod, mod-lt, div-lt_iff_lt-mul}
 use native.Mathlib.Omega.{arith}
 use lib.Dec.{eqb}
 use lib.Ieee.{Float}
-use lib.ListN.{get_or, set}
+use lib.ListN.{get_or}
 use borrow.Author.Tests.{eq-eqb, ne_eqb}
 use Rattle.rules.specs.Bits.{pick}
 use Rattle.rules.specs.Modes.{part_bits, slots, slot_bits, symbols}
@@ -16,7 +16,6 @@ use Rattle.rules.specs.Block.{heard, in_block, part_of}
 use Rattle.rules.specs.declared.Profile.{Profile}
 use Rattle.rules.specs.Pieces.{choices, byte_at, decision_in, kept_bit}
 use Rattle.laws.specs.Holds.{Holds}
-use Rattle.laws.specs.Filled.{up_to, holds-next}
 use Rattle.laws.specs.Decisions.{decide-le}
 use Rattle.laws.specs.Parts.{part-number, part-place, part-within}
 use Rattle.modes.proofs.Figures.{figures, part-bounds}
@@ -37,6 +36,18 @@ point-of-bit m i h =
     omega arith
 
 -- ---- bytes spread
+
+-- the code's choices
+pub choices-are : (w : ℕ) → 1 ≤ w → w ≤ 2 → 1 * 2 ^ w % 256 + 1 ≡ choices w
+choices-are w l m = go (ℕ_discrete w 1)
+  where
+    go : Dec (w ≡ 1) → 1 * 2 ^ w % 256 + 1 ≡ choices w
+    go (yes e) = rw e
+    go (no n) = let e : w ≡ 2 = omega arith in rw e
+
+-- place k of a byte's bits is in one of its two parts
+pub part-of : {w k : ℕ} → 0 < w → k < 2 * w → k / w < 2
+part-of {w} {k} some h = (div-lt_iff_lt-mul {y = 2} some).1 (omega arith)
 
 module _ (w : ℕ) (bytes : ℕ → ℕ) (i : ℕ) where
   -- bit k of part n of byte i stands there
@@ -59,22 +70,10 @@ module _ (w : ℕ) (bytes : ℕ → ℕ) (i : ℕ) where
       parity : (2 * i + n) % 2 ≡ n % 2
       parity = omega arith
 
-  -- and is stored
-  pub spread-next : (size : ℕ) (g : ℕ → ℕ) (n k at next : ℕ) {v : ℕ} {l : List ℕ} → At n k at × (at < size) × (next ≡ at + 1)
-      → v ≡ bit_in w (decision_in w (bytes i) n) k
-      → Holds 0 size (up_to at (spread_bit w bytes) g) l
-      → Holds 0 size (up_to next (spread_bit w bytes) g) (set l at v)
-  spread-next size g n k at next {v} {l} h p held =
-      subst (λ (j : ℕ). Holds 0 size (up_to j (spread_bit w bytes) g) (set l at v)) (sym h.2)
-      (holds-next (spread_bit w bytes) g 0 at v h.1 (p ∙ spread_at n k at h.0) held)
-
--- of one bit, a decision that is none beyond the doubtful one is its bit
-pub only-sure : (d : ℕ) → d < 3 → d ≡ bit_in 1 d 0
-only-sure d h = go (ℕ_discrete d 2)
-  where
-    go : Dec (d ≡ 2) → d ≡ bit_in 1 d 0
-    go (yes e) = simp (eq-eqb d 2 e) e
-    go (no n) = simp (ne_eqb d 2 n) (omega arith)
+  -- place k of byte i's bits
+  pub spread-in : (k : ℕ) → 0 < w → k < 2 * w → bit_in w (decision_in w (bytes i) (k / w)) (k % w) ≡ spread_bit w bytes (2 * w * i + k)
+  spread-in k some h =
+      spread_at (k / w) (k % w) (2 * w * i + k) (part-of some h, mod-lt k some, omega (arith, div-add-mod k w))
 
 -- the bytes of a slot's points, spread, are the slot's bits
 pub spread-slot : (m : ℕ) (cells bytes : ℕ → ℕ) (t : ℕ) → ((i : ℕ) → i < 500 → bytes i ≡ point_byte cells t i)

@@ -14,7 +14,7 @@ use Rattle.laws.specs.Filled.{holds-first, holds-whole}
 use Rattle.laws.specs.Parts.{part-long, part-within, holds-part}
 use Rattle.modes.proofs.Figures.{block-most}
 use Rattle.hearing.proofs.Reading.{kept-in-block}
-use Rattle.hearing.proofs.read_block.Goals.{After-loop-t, After-places-places, Else-bits-block_bits, Else-cells-symbol_count, In-loop-t}
+use Rattle.hearing.proofs.read_block.Goals.{After-loop-t, After-places, Else-bits-block_bits, Else-cells-symbol_count, In-loop-t}
 use Rattle.hearing.proofs.read_block.Goals as goal
 
 -- there are as many cells as the grid has, and as many bits as the block
@@ -81,10 +81,7 @@ pub read_slot-requires : goal.read_slot-requires
 read_slot-requires c =
     let slot = c.slot_bits-slot in
     let at = slot.result * c.loop-t.t in (
-      c.part_bits-w.ensures.0,
       omega arith,
-      c.places-places.ensures,
-      cells-long (goal.at.read_slot-requires c).Else-cells-symbol_count,
       part-long at (at + slot.result) c.loop-t.bits (omega arith) (omega (arith, room (goal.at.read_slot-requires c).In-loop-t, c.loop-t.invariant.1.long)) ∙ omega arith,
     )
 
