@@ -78,14 +78,12 @@ impl Block {
         requires { i < 128 }
         ensures { result ≡ counts i self.receipt }
     {
-        let reasons = self.receipt.reasons;
-        let reason = reasons[i / 8];
-        let kind = i % 8;
-        match kind {
+        let reason = self.receipt.reasons[i / 8];
+        match i % 8 {
             0 => reason == 0,
             1 => reason != 0 && self.receipt.number == 0,
             2 => reason != 0 && matches!(self.receipt.number, 9 | 10),
-            _ => reason as usize == kind + 8,
+            kind => reason as usize == kind + 8,
         }
     }
 
@@ -94,12 +92,10 @@ impl Block {
         requires { length totals.now ≡ 128 }
         ensures { result ≡ fits (plus totals.now self.receipt) }
     {
-        for (i, &total) in totals.iter().enumerate() {
-            if total == u64::MAX && self.rises(i) {
-                return false;
-            }
-        }
-        true
+        totals
+            .iter()
+            .enumerate()
+            .all(|(i, &total)| total != u64::MAX || !self.rises(i))
     }
 
     // Why the block isn't added: 23, 19, the first that fits.

@@ -1,5 +1,5 @@
 -- No block, and a block that is taken.
-use mathlib.Core.Path.{◌≡◌, refl, sym, subst, ◌∙◌}
+use mathlib.Core.Path.{◌≡◌, refl, sym}
 use lib.Dec.{T}
 use lib.ListN.{length}
 use Rattle.rules.specs.Totals.{plus, fits, agrees}
