@@ -6,4 +6,4 @@ use Rattle.rules.specs.Block.{lost_mask}
 use Rattle.adding.proofs.mask_of.Given as goal
 
 abbrev pub invariant-loop-p : goal.invariant-loop-p
-invariant-loop-p l = (l.p ≤ 16) × (l.lost ≡ lost_mask l.p (row l.reasons))
+invariant-loop-p l = (l.p ≤ 16) × (l.lost ≡ lost_mask l.p (row l.fn.reasons))
