@@ -8,7 +8,13 @@ use native.Mathlib.Omega.{arith}
 use lib.Dec.{T, eqb, ltb, lit<, eqb→eq}
 use lib.Ieee.Fits.{and_l, and_r}
 use borrow.Author.Tests.{lt-ltb, le-ltb}
-use Rattle.rules.specs.Bits.{pick, bit_of, byte_bit}
+use lib.Pow.{shr-shr}
+use Rattle.std.specs.Int.{to_be_bytes, w16}
+use mathlib.Core.List.{List}
+use lib.ListN.{length}
+use Rattle.laws.specs.Parts.{part, part-long, part_at}
+use Rattle.laws.specs.Mask.{marked-low}
+use Rattle.rules.specs.Bits.{pick, row, bit_of, byte_bit}
 use Rattle.rules.specs.Packet.{check_step, check_register, check_word, packet_bit}
 use Rattle.packet.proofs.Number.{number_same, number-byte, number-of-bits, bit-of-number}
 use Rattle.rules.specs.Block.{byte_of, check_right, reserved_right}
@@ -25,6 +31,12 @@ register-same x y (suc n) h = ap₂ check_step (register-same x y n (λ i lt. h 
 pub word_same : (x y : ℕ → ℕ) (n : ℕ) → ((i : ℕ) → i < n → x i ≡ y i) → check_word x n ≡ check_word y n
 unfolding check_word
 word_same x y n h = ap (λ (s : ℕ). 2 ^ 16 - 1 - s) (register-same x y n h)
+
+-- the word of the first 976 bits of a list
+pub word-front : (l : List ℕ) → 976 ≤ length l → check_word (row (part 0 976 l)) (length (part 0 976 l)) ≡ check_word (row l) 976
+word-front l h =
+    ap (check_word (row (part 0 976 l))) (part-long 0 976 l (omega arith) h)
+    ∙ word_same (row (part 0 976 l)) (row l) 976 (λ k lt. part_at 0 976 l (omega arith) h k 0 (omega arith) ∙ ap (row l) (omega arith))
 
 pub right-bit : (x : ℕ → ℕ) → T (check_right x) → (i : ℕ) → i < 16 → x (976 + i) ≡ bit_of 16 (check_word x 976) i
 right-bit x c i h =
@@ -82,6 +94,32 @@ packet-same d e h i = go (dec_lt i 976)
     go : Dec (i < 976) → packet_bit d i ≡ packet_bit e i
     go (yes lt) = data-bit d i lt ∙ at i lt ∙ sym (data-bit e i lt)
     go (no ge) = rw (le-ltb i 976 (omega arith), word_same (byte_bit d) (byte_bit e) 976 at)
+
+-- ---- the bits of the check word's two bytes
+
+module _ (w i : ℕ) where
+  high-bit : i < 8 → bit_of 8 (w / 256 % 256) i ≡ bit_of 16 w i
+  high-bit lt =
+      let place : 8 + (7 - i) ≡ 15 - i = omega arith in
+      sym (marked-low (w / 256) 8 (7 - i) (omega arith)) ∙ ap (λ (a : ℕ). a % 2) (shr-shr w 8 (7 - i)) ∙ ap (λ (k : ℕ). w / 2 ^ k % 2) place
+
+  low-bit : 8 ≤ i → i < 16 → bit_of 8 (w % 256) (i - 8) ≡ bit_of 16 w i
+  low-bit le lt =
+      let place : 7 - (i - 8) ≡ 15 - i = omega arith in
+      sym (marked-low w 8 (7 - (i - 8)) (omega arith)) ∙ ap (λ (k : ℕ). w / 2 ^ k % 2) place
+
+  pub word-bit : i < 16 → byte_bit (row (to_be_bytes w16 w)) i ≡ bit_of 16 w i
+  word-bit lt = go (dec_lt i 8)
+    where
+      go : Dec (i < 8) → byte_bit (row (to_be_bytes w16 w)) i ≡ bit_of 16 w i
+      go (yes before) =
+          let byte : i / 8 ≡ 0 = omega arith in
+          let place : i % 8 ≡ i = omega arith in
+          rw (byte, place) (high-bit before)
+      go (no after) =
+          let byte : i / 8 ≡ 1 = omega arith in
+          let place : i % 8 ≡ i - 8 = omega arith in
+          rw (byte, place) (low-bit (omega arith) lt)
 
 -- ---- the same of rows that have the same 994 bits
 

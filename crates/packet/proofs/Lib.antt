@@ -1,4 +1,5 @@
 pub mod Bits
 pub mod Number
+pub mod Folds
 pub mod Register
 pub mod Distance

@@ -18,6 +18,11 @@ unfolding number
 number_same x y zero h = refl
 number_same x y (suc n) h = ap₂ (λ (a b : ℕ). a * 2 + b) (number_same x y n (λ k lt. h k (omega arith))) (h n (le_refl (suc n)))
 
+pub number-lt : (x : ℕ → ℕ) (n : ℕ) → ((k : ℕ) → x k < 2) → number x n < 2 ^ n
+unfolding number
+number-lt x zero b = omega arith
+number-lt x (suc n) b = omega (arith, number-lt x n b, b n)
+
 -- one digit further down
 half-more : (a p : ℕ) → a / 2 ^ suc p ≡ a / 2 / 2 ^ p
 half-more a p = ap (λ (k : ℕ). a / 2 ^ k) (sym (one-add p)) ∙ sym (shr-shr a 1 p)

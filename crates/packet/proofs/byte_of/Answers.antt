@@ -1,43 +1,37 @@
--- The loop's invariant: b is the number of the first i bits.
-use mathlib.Core.Path.{◌≡◌, refl, ap, ◌∙◌}
-use Prim.Native.Nat.{ℕ, ◌+◌, ◌*◌, ◌%◌, ◌≤◌, ◌<◌}
-use native.Mathlib.Numerals.{add-one}
+-- The number that 8 bits spell.
+use mathlib.Core.Path.{◌≡◌, ap, ◌∙◌}
+use mathlib.Core.List.{List}
+use Prim.Native.Nat.{ℕ, ◌+◌, ◌*◌, ◌%◌, ◌<◌}
 use native.Mathlib.Omega.{arith}
+use borrow.Author.Rules.{rules}
+use lib.Bits.{bit_or, or_shifted}
 use lib.Pow.{pow_mono}
+use lib.ListN.{length}
+use Rattle.std.specs.List.{fold}
 use Rattle.rules.specs.Bits.{row}
-use Rattle.packet.proofs.Number.{number, number-byte}
-use Rattle.packet.proofs.byte_of.Goals.{In-loop-i}
+use Rattle.packet.proofs.Number.{number, number-lt, number-byte, number_same}
+use Rattle.packet.proofs.Folds.{folded}
 use Rattle.packet.proofs.byte_of.Goals as goal
 
--- b has at most 7 digits in a turn
-small : (c : In-loop-i) → c.loop-i.b < 128
-small c =
-    let l = c.loop-i in
-    let i≤7 : l.i ≤ 7 = omega arith in
-    omega (arith, pow_mono i≤7)
+-- one bit more
+abbrev more : ℕ → ℕ → ℕ
+more b bit = bit_or (b * 2 % 256) (bit % 2)
 
-pub loop-i-init : goal.loop-i-init
+more-is : (b bit : ℕ) → b < 128 → more b bit ≡ b * 2 + bit % 2
+more-is b bit lt =
+    let whole : b * 2 % 256 ≡ b * 2 = omega arith in
+    rw whole (or_shifted b 1 (bit % 2) (omega arith))
+
+spelt : (l : List ℕ) → length l ≡ 8 → fold more 0 l ≡ number (λ k. row l k % 2) 8
 unfolding number
-loop-i-init c = (omega arith, omega arith, refl)
-
-pub overflow_mul-b : goal.overflow_mul-b
-overflow_mul-b c = omega (arith, small (goal.at.overflow_mul-b c).In-loop-i)
-
-pub overflow_add-b-in-loop-i : goal.overflow_add-b-in-loop-i
-overflow_add-b-in-loop-i c = omega (arith, small (goal.at.overflow_add-b-in-loop-i c).In-loop-i)
-
-pub loop-i-preserved : goal.loop-i-preserved
-unfolding number
-loop-i-preserved c =
-    let l = c.loop-i in (
-      omega arith,
-      rw (add-one l.i) (omega arith),
-      rw (add-one l.i) (ap (λ (b : ℕ). b * 2 + row c.args.x.now (8 * c.args.j + l.i) % 2) l.invariant.2),
-    )
+spelt l long =
+    let x : ℕ → ℕ = λ (k : ℕ). row l k % 2 in
+    folded more (number x) l (λ k lt. more-is (number x k) (row l k) (omega (arith, number-lt x k (λ i. omega arith), pow_mono {i = k} {j = 7} (omega arith))))
+    ∙ ap (number x) long
 
 pub returns : goal.returns
 returns c =
-    let l = c.loop-i in
-    let a = c.args in
-    let end : l.i ≡ 8 = omega arith in
-    l.invariant.2 ∙ ap (number (λ k. row a.x.now (8 * a.j + k) % 2)) end ∙ number-byte (λ i. row a.x.now i % 2) a.j
+    let l = c.args.bits.now in
+    let x : ℕ → ℕ = λ (k : ℕ). row l k % 2 in
+    let e : c.fold.result ≡ fold more 0 l = search rules in
+    e ∙ spelt l c.requires ∙ number_same x (λ k. x (8 * 0 + k)) 8 (λ k lt. ap x (omega arith)) ∙ number-byte x 0

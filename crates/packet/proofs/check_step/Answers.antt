@@ -8,7 +8,10 @@ use Rattle.packet.proofs.check_step.Goals as goal
 
 pub returns-then-top-eq1 : goal.returns-then-top-eq1
 unfolding check_step
-returns-then-top-eq1 c = rw c.if-top-eq1.true
+returns-then-top-eq1 c =
+    let a = c.args in
+    let one : (a.s / 32768 + a.b) % 2 ≡ 1 = omega arith in
+    rw one
 
 pub returns-else-top-eq1 : goal.returns-else-top-eq1
 unfolding check_step
