@@ -1,13 +1,17 @@
 -- A piece's bytes in a list, and put into a state: what stands at each place.
-use mathlib.Core.Path.{◌≡◌, sym, ◌∙◌, ap, subst}
+use mathlib.Core.Path.{◌≡◌, refl, sym, ◌∙◌, ap, subst}
 use mathlib.Core.Bool.{Bool}
-use mathlib.Core.List.{List, ◌++◌}
-use Prim.Native.Nat.{ℕ, ◌+◌, ◌-◌, ◌/◌, ◌%◌, ◌<◌, ◌≤◌}
+use mathlib.Core.List.{List, [], ◌∷◌, ◌++◌}
+use Prim.Native.Nat.{ℕ, zero, suc, ◌+◌, ◌-◌, ◌/◌, ◌%◌, ◌<◌, ◌≤◌}
 use native.Mathlib.Decide.{dec_lt}
 use native.Mathlib.Omega.{arith}
 use lib.Ieee.{Float}
-use lib.ListN.{length, set, take, replicate, length-set, length-append, length-replicate, get_or-append}
-use lib.Seq.{length-take-le, get_or-take, get_or-set_same, get_or-set_other}
+use lib.Dec.{lit<}
+use lib.ListN.{length, take, drop, replicate, length-append, length-replicate, get_or-append}
+use lib.Seq.{length-take-le, get_or-take}
+use Rattle.std.specs.Int.{w16, to_be_bytes}
+use Rattle.std.proofs.lemmas.Nat.{be_bytes_2}
+use Rattle.std.proofs.Common.{get_or-append-add, get_or-drop}
 use borrow.Author.Tests.{eq-eqb}
 use Rattle.rules.specs.Bits.{row}
 use Rattle.rules.specs.Pieces.{seen, cell_in, byte_at, fed_cell, Put}
@@ -40,8 +44,17 @@ module _ (n : ℕ) (y rest : List ℕ) (long : length y ≡ n) where
   pub front_at : (c : ℕ) → c < n → row (take n (y ++ rest)) c ≡ row y c
   front_at c h = get_or-take n (y ++ rest) c 0 h ∙ get_or-append y rest 0 c (omega arith)
 
+-- a count in two bytes, high byte first
+spelled : (n : ℕ) → n < 65536 → to_be_bytes w16 n ≡ n / 256 ∷ n % 256 ∷ []
+spelled n lt = be_bytes_2 (n / 256 ∷ n % 256 ∷ []) n refl each (omega arith)
+  where
+    each : (i : ℕ) → row (n / 256 ∷ n % 256 ∷ []) i < 256
+    each zero = omega arith
+    each (suc zero) = omega arith
+    each (suc (suc i)) = lit< tt
+
 -- n cells have come, and the bytes y of a piece's cells are put after them
-module _ (P : Profile) (f s : List Float) (state y : List ℕ) (n end high low : ℕ) (long : length state ≡ 28674) (count : n ≡ seen state)
+module _ (P : Profile) (f s : List Float) (state y : List ℕ) (n end : ℕ) (long : length state ≡ 28674) (count : n ≡ seen state)
     (ends : end ≡ n + length f) (room : 2 + end ≤ 28674) (bytes : Holds 0 (length f) (byte_at P f s) y) where
   middle : List ℕ
   middle = put_part (2 + n) (2 + end) state y
@@ -53,19 +66,11 @@ module _ (P : Profile) (f s : List Float) (state y : List ℕ) (n end high low :
   unfolding middle
   middle-long = put-long (2 + n) (2 + end) state (omega arith) (omega arith) y y-long ∙ long
 
-  -- there is room for the two bytes in front
-  pub put_second : 1 < length (set (put_part (2 + n) (2 + end) state y) 0 high)
-  unfolding middle
-  put_second = simp length-set (omega (arith, middle-long))
-
-  -- which do not touch the cells
-  after : List ℕ
-  after = set (set middle 0 high) 1 low
-
-  after-cell : (c : ℕ) → cell_in after c ≡ cell_in middle c
-  unfolding after
-  after-cell c =
-      get_or-set_other (set middle 0 high) 1 (2 + c) low 0 (λ e. omega arith) ∙ get_or-set_other middle 0 (2 + c) high 0 (λ e. omega arith)
+  -- the bytes that count the cells stand in front, and do not touch the cells
+  after-cell : (front : List ℕ) → length front ≡ 2 → (c : ℕ) → cell_in (front ++ drop 2 middle) c ≡ cell_in middle c
+  after-cell front two c =
+      ap (λ (k : ℕ). row (front ++ drop 2 middle) (k + c)) (sym two)
+      ∙ get_or-append-add front (drop 2 middle) c 0 ∙ get_or-drop 2 middle c 0
 
   middle-cell : (c : ℕ) → 2 + c < 28674 → cell_in middle c ≡ fed_cell P (seen state) f s (cell_in state) c
   unfolding middle
@@ -88,17 +93,17 @@ module _ (P : Profile) (f s : List Float) (state y : List ℕ) (n end high low :
           ∙ ap (row state) (sym at)
           ∙ sym (fed-after P (seen state) f s (cell_in state) c (omega arith) (omega arith))
 
-  pub put-done : high ≡ end / 256 → low ≡ end % 256 → Put P f s state (set (set (put_part (2 + n) (2 + end) state y) 0 high) 1 low)
-  unfolding after middle
-  put-done h l =
+  pub put-done : (front : List ℕ) → front ≡ to_be_bytes w16 end → Put P f s state (front ++ drop 2 (put_part (2 + n) (2 + end) state y))
+  unfolding middle
+  put-done front e =
+      let is : front ≡ end / 256 ∷ end % 256 ∷ [] = e ∙ spelled end (omega arith) in
+      let two : length front ≡ 2 = ap length is in
       record {
         high =
-            get_or-set_other (set middle 0 high) 1 0 low 0 (λ e. omega arith)
-            ∙ get_or-set_same middle 0 high 0 (omega (arith, middle-long)) ∙ h ∙ ap (λ (k : ℕ). k / 256) whole;
+            get_or-append front (drop 2 middle) 0 0 (omega arith) ∙ ap (λ (l : List ℕ). row l 0) is ∙ ap (λ (k : ℕ). k / 256) whole;
         low =
-            get_or-set_same (set middle 0 high) 1 low 0 (simp length-set (omega (arith, middle-long))) ∙ l
-            ∙ ap (λ (k : ℕ). k % 256) whole;
-        cells = λ c lt. after-cell c ∙ middle-cell c lt;
+            get_or-append front (drop 2 middle) 0 1 (omega arith) ∙ ap (λ (l : List ℕ). row l 1) is ∙ ap (λ (k : ℕ). k % 256) whole;
+        cells = λ c lt. after-cell front two c ∙ middle-cell c lt;
       }
     where
       whole : end ≡ seen state + length f

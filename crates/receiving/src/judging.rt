@@ -43,11 +43,13 @@ fn judge(p: Profile, marks: u16, bits: [u8; 48000], data: &mut [u8]) -> Receipt
     let mut plain = bits;
     scramble(p, &mut plain);
     let v = turbo::judge_block(p.mode, marks, plain);
+    let block = v.block;
+    let reasons = v.reasons;
     Receipt {
-        number: number(deliver(p.k, v.lost, v.block, data)),
+        number: number(deliver(p.k, v.lost, block, data)),
         place: 0,
         lost: v.lost,
-        reasons: v.reasons,
+        reasons,
     }
 }
 

@@ -27,12 +27,7 @@ pub fn receive(p: Profile, marks: u16, firsts: &[f32], seconds: &[f32], data: &m
 }
 
 // Takes the next piece of a grid into the state.
-pub fn feed(
-    p: Profile,
-    state: &mut [u8],
-    firsts: &[f32],
-    seconds: &[f32],
-) -> Result<(), Refusal>
+pub fn feed(p: Profile, state: &mut [u8], firsts: &[f32], seconds: &[f32]) -> Result<(), Refusal>
     ensures { FeedRule p firsts.now seconds.now state.old state.new (answer_of result) }
 {
     pieces::feeding(p, state, firsts.len(), seconds.len())?;

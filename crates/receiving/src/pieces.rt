@@ -44,9 +44,13 @@ fn is_state(mode: u8, state: &[u8]) -> bool
         return false;
     }
     let n = seen(state);
-    n <= 4096 * symbol_count(mode)
-        && largest(&state[2..2 + n]) <= most_byte(mode)
-        && largest(&state[2 + n..]) == 0
+    if n > 4096 * symbol_count(mode) {
+        return false;
+    }
+    if largest(&state[2..2 + n]) > most_byte(mode) {
+        return false;
+    }
+    largest(&state[2 + n..]) == 0
 }
 
 // How many cells have come, where pieces of a grid of the mode leave this state.
@@ -62,7 +66,12 @@ fn come(mode: u8, state: &[u8]) -> Result<usize, Refusal>
 }
 
 // What is at fault in the profile, 22, 7, 16, the first that fits.
-pub(crate) fn feeding(p: Profile, state: &[u8], firsts: usize, seconds: usize) -> Result<(), Refusal>
+pub(crate) fn feeding(
+    p: Profile,
+    state: &[u8],
+    firsts: usize,
+    seconds: usize,
+) -> Result<(), Refusal>
     ensures { answer_of result ≡ rule.feeding p state.now firsts seconds }
 {
     profile::fault(p)?;

@@ -60,12 +60,7 @@ fn write_grid(mode: u8, level: f32, bits: &[u8], firsts: &mut [f32], seconds: &m
 }
 
 // Fills the whole grid.
-pub fn send(
-    p: Profile,
-    data: &[u8],
-    firsts: &mut [f32],
-    seconds: &mut [f32],
-) -> Result<(), Refusal>
+pub fn send(p: Profile, data: &[u8], firsts: &mut [f32], seconds: &mut [f32]) -> Result<(), Refusal>
     ensures { SendRule p «data».now firsts.old seconds.old firsts.new seconds.new (answer_of result) }
 {
     let mode = p.mode;

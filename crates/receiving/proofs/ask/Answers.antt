@@ -1,5 +1,5 @@
 -- A number before any judgement, or the judgement of what the state keeps.
-use mathlib.Core.Path.{◌≡◌, refl, sym, ◌∙◌, ap}
+use mathlib.Core.Path.{◌≡◌, sym, ◌∙◌, ap}
 use Prim.Native.Nat.{◌+◌, ◌*◌}
 use native.Mathlib.Omega.{arith}
 use lib.Dec.{T}
@@ -11,7 +11,7 @@ use Rattle.rules.specs.Block.{understood, in_block}
 use Rattle.rules.specs.Pieces.{is_state, state_bytes, seen, cell_in, kept_bit, asking}
 use Rattle.rules.specs.Answers.{Answer}
 use Rattle.laws.specs.Parts.{part, part-long, part_at}
-use Rattle.receiving.proofs.Numbers.{answered-refused, answered-judged}
+use Rattle.receiving.proofs.Numbers.{answered-judged}
 use Rattle.receiving.proofs.States.{is_state_lem, asking-0}
 use Rattle.receiving.proofs.Judgement.{cells-judged}
 use Rattle.receiving.proofs.ask.Goals.{After-symbol_count}
@@ -20,7 +20,7 @@ use Rattle.receiving.proofs.ask.Goals as goal
 module _ (c : After-symbol_count) where
   -- the first answer is 0
   zero : let a = c.args in (asking a.p a.state.now (length a.«data».now)).number ≡ 0
-  zero = sym (ap (λ (x : Answer). x.number) c.asking-a.ensures) ∙ c.if-a-ne0.false
+  zero = sym (ap (λ (x : Answer). x.number) c.in_default.ensures)
 
   -- the last cell has come
   passed : let a = c.args in
@@ -36,12 +36,6 @@ module _ (c : After-symbol_count) where
   kept-long =
       let n = c.symbol_count in
       part-long 2 (2 + 4096 * n.result) c.args.state.now (omega arith) (omega (arith, long, n.ensures.1)) ∙ omega (arith, n.ensures.0)
-
-pub returns-then-a-ne0 : goal.returns-then-a-ne0
-returns-then-a-ne0 c =
-    let a = c.args in
-    answered-refused a.p a.marks _ (understood a.p (in_block a.p.mode (kept_bit a.p.mode (cell_in a.state.now)))) a.«data».now a.«data».now
-    c.silence.result c.asking-a.result c.asking-a.ensures c.if-a-ne0.true c.silence.ensures refl
 
 pub slice_bounds-judge_cells-end : goal.slice_bounds-judge_cells-end
 slice_bounds-judge_cells-end c =

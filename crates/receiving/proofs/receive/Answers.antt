@@ -1,5 +1,5 @@
 -- A number before any judgement; or every cell is decided, and the block judged.
-use mathlib.Core.Path.{◌≡◌, refl, sym, ◌∙◌, ap}
+use mathlib.Core.Path.{◌≡◌, sym, ◌∙◌, ap}
 use mathlib.Core.List.{List, ◌++◌}
 use Prim.Native.Nat.{ℕ, ◌*◌}
 use native.Mathlib.Omega.{arith}
@@ -11,7 +11,7 @@ use Rattle.rules.specs.Answers.{Answer}
 use Rattle.laws.specs.Holds.{Holds}
 use Rattle.rules.specs.Pieces.{byte_at}
 use Rattle.block.proofs.Passed.{Right, right, early-symbols}
-use Rattle.receiving.proofs.Numbers.{answered-refused, answered-judged}
+use Rattle.receiving.proofs.Numbers.{answered-judged}
 use Rattle.receiving.proofs.Judgement.{kept-judged}
 use Rattle.receiving.proofs.Putting.{piece_bytes, zeros-long, whole_long, front_long, front_at}
 use Rattle.receiving.proofs.receive.Goals.{After-decide_cells}
@@ -21,7 +21,7 @@ module _ (c : After-decide_cells) where
   -- the first answer is 0
   zero : (early c.args.p (length c.args.«data».now) (length c.args.firsts.now) (length c.args.seconds.now) (4096 * symbols c.args.p.mode)).number ≡ 0
   zero =
-      sym (ap (λ (x : Answer). x.number) (early-symbols c.args.p _ _ _ c.symbol_count-n.ensures.0 c.early-a.ensures)) ∙ c.if-a-ne0.false
+      sym (ap (λ (x : Answer). x.number) (early-symbols c.args.p _ _ _ c.symbol_count-n.ensures.0 c.in_default.ensures))
 
   -- everything passed
   passed : Right c.args.p (length c.args.«data».now) (length c.args.firsts.now) (length c.args.seconds.now) (4096 * symbols c.args.p.mode)
@@ -49,12 +49,6 @@ module _ (c : After-decide_cells) where
   -- as many as the grid has
   bytes-long : length made ≡ many
   bytes-long = bytes.long ∙ passed.firsts_long ∙ ap (λ (k : ℕ). 4096 * k) (sym c.symbol_count-n.ensures.0)
-
-pub returns-then-a-ne0 : goal.returns-then-a-ne0
-returns-then-a-ne0 c =
-    let a = c.args in
-    answered-refused a.p a.marks _ (decided a.p a.firsts.now a.seconds.now) a.«data».now a.«data».now c.silence.result
-    c.early-a.result (early-symbols a.p _ _ _ c.symbol_count-n.ensures.0 c.early-a.ensures) c.if-a-ne0.true c.silence.ensures refl
 
 pub slice_bounds-decide_cells-end : goal.slice_bounds-decide_cells-end
 slice_bounds-decide_cells-end c = sym (zeros-long 28672 (4096 * c.symbol_count-n.result) (omega (arith, c.symbol_count-n.ensures.1)))

@@ -1,4 +1,4 @@
--- What `restore` answers by its number is Delivered's: the k and the block's length are right, so 4 and 6 can't come.
+-- What `restore` answers is Delivered's: the k and the block's length are right, so 43 and 6 can't come.
 use mathlib.Core.Path.{◌≡◌, refl, sym, ◌∙◌, ap, subst}
 use mathlib.Core.List.{List}
 use Prim.Native.Nat.{ℕ, ◌+◌, ◌-◌, ◌*◌, ◌≤◌, ◌<◌}
@@ -8,11 +8,17 @@ use lib.Dec.{T}
 use lib.ListN.{length, take}
 use lib.Seq.{length-take-le, get_or-take}
 use borrow.Author.Rules.{rules}
+use Rattle.std.specs.Prelude.{⊤, Result}
+use Rattle.std.specs.Result.{IsErrAnd}
+use Rattle.std.proofs.lemmas.Result.{err_from_is_err_and}
+use Rattle.rules.specs.declared.OuterError.{OuterError}
+use Rattle.rules.specs.declared.OuterError.TheVariants.{BadK, BadLength, TooManyLost, NoCodeword}
+use Rattle.rules.specs.declared.Refusal.{Refusal}
+use Rattle.rules.specs.Answers.{answer_of, outer_number, refusal_number}
 use Rattle.rules.specs.Bits.{row}
 use Rattle.rules.specs.Outer.{is_k, column, Codeword, Agree, Restored}
 use Rattle.rules.specs.Block.{Delivered}
 use Rattle.outer.proofs.Roots.{k-range}
-use Rattle.receiving.proofs.judging.deliver.Goals.{After-number-number, After-restore}
 use Rattle.receiving.proofs.judging.deliver.Goals as goal
 
 -- a refusal
@@ -33,40 +39,29 @@ whole (Restored.bad_length t n e) z = absurd (omega arith)
 whole (Restored.too_many_lost t b many e) z = absurd (omega arith)
 whole (Restored.no_codeword t b few j l none e) z = absurd (omega arith)
 
--- ---- what is known once the block is restored
--- by the number that is answered
-says : (c : After-number-number)
-    → let a = c.args in
-    Restored a.k a.lost a.block c.restore.new.block c.number-number.result
-says c =
-    let a = c.args in
-    subst (Restored a.k a.lost a.block c.restore.new.block) (sym c.number-number.ensures) c.restore.ensures
+-- what refuses has a number
+not-zero : (e : OuterError) → ¬ (outer_number e ≡ 0)
+not-zero BadK z = omega arith
+not-zero BadLength z = omega arith
+not-zero TooManyLost z = omega arith
+not-zero NoCodeword z = omega arith
 
-within : (c : After-restore) → length c.args.«data».now ≤ length c.restore.new.block
-within c =
+-- the refusal that `?` makes of it has the same
+handed-on : (e : OuterError) (r : Result ⊤ Refusal) → IsErrAnd r (λ d. refusal_number d ≡ outer_number e) → outer_number e ≡ (answer_of r).number
+handed-on e r h = let p = err_from_is_err_and r h in sym (ap (λ (x : Result ⊤ Refusal). (answer_of x).number) p.1 ∙ p.2)
+
+pub returns-in_err-restore : goal.returns-in_err-restore
+returns-in_err-restore c =
     let long : length c.args.block ≡ 1952 = search rules in
-    omega (arith, k-range c.args.k c.requires.0, c.restore.auto.block)
-
-front_long : (c : After-restore) → length (take (length c.args.«data».now) c.restore.new.block) ≡ length c.args.«data».now
-front_long c = length-take-le (length c.args.«data».now) c.restore.new.block (within c)
-
-pub returns-then-number-ne0 : goal.returns-then-number-ne0
-returns-then-number-ne0 c =
-    let long : length c.args.block ≡ 1952 = search rules in
-    refused (says (goal.at.returns-then-number-ne0 c).After-number-number) c.requires.0 long c.if-number-ne0.true
-
-pub slice_bounds-whole-end : goal.slice_bounds-whole-end
-slice_bounds-whole-end c = within (goal.at.slice_bounds-whole-end c).After-restore
-
-pub slice_bounds-copy-end : goal.slice_bounds-copy-end
-slice_bounds-copy-end c = sym (front_long (goal.at.slice_bounds-copy-end c).After-restore)
-
-pub copy-requires : goal.copy-requires
-copy-requires c = front_long (goal.at.copy-requires c).After-restore
+    subst (λ (n : ℕ). Delivered c.args.k c.args.lost (λ p j. column c.args.block j p) c.args.«data».now c.args.«data».now n)
+    (handed-on _ _ c.from_residual.ensures.1) (refused c.in_err-restore.ensures c.requires.0 long (not-zero _))
 
 pub returns : goal.returns
 returns c =
-    let w = whole (says (goal.at.returns c).After-number-number) c.if-number-ne0.false in
-    let e = c.copy.ensures in
-    Delivered.whole w.0 (column c.restore.new.block) w.1 (ap length e ∙ front_long (goal.at.returns c).After-restore ∙ c.requires.1)
+    let w = whole c.in_ok-restore.ensures refl in
+    let e = c.copy_from_slice.ensures.after in
+    let long : length c.args.block ≡ 1952 = search rules in
+    let front : length (take (length c.args.«data».now) c.restore.new.block) ≡ length c.args.«data».now =
+    length-take-le (length c.args.«data».now) c.restore.new.block (omega (arith, c.requires.1, k-range c.args.k c.requires.0, c.restore.auto.block)) in
+    Delivered.whole w.0 (column c.restore.new.block) w.1 (ap length e ∙ front ∙ c.requires.1)
     (λ p j hp hj. ap (λ (l : List ℕ). row l (122 * p + j)) e ∙ get_or-take (length c.args.«data».now) c.restore.new.block (122 * p + j) 0 (omega arith))

@@ -1,5 +1,10 @@
 -- The tests in their order; each that fails tells that it is no state.
+use mathlib.Core.Path.{◌≡◌, ◌∙◌}
+use native.Mathlib.Decide.{ℕ_discrete}
 use native.Mathlib.Omega.{arith}
+use borrow.Author.Tests.{eq-eqb, ne_eqb}
+use lib.Dec.{eqb}
+use Rattle.rules.specs.Pieces.{is_state}
 use Rattle.receiving.proofs.States.{passes, fails, come-small, rest-zero, small-zero}
 use Rattle.receiving.proofs.pieces.is_state.Goals as goal
 
@@ -21,20 +26,17 @@ returns-then-largest-most_byte c =
       come-small a.state.now s.result w.long s.ensures.0 (omega arith) c.largest.result a.mode b.result c.largest.ensures w b.ensures,
     ))
 
-pub returns-then-largest-gt0 : goal.returns-then-largest-gt0
-returns-then-largest-gt0 c =
-    let s = c.seen-n in
-    let a = c.args in
-    fails _ _
-    (λ w.
-    omega (arith, rest-zero a.state.now s.result w.long s.ensures.0 (omega arith) c.largest-2.result a.mode c.largest-2.ensures w))
-
 pub returns : goal.returns
-returns c =
-    let b = c.most_byte in
-    let come = c.largest in
-    let rest = c.largest-2 in
-    let a = c.args in
-    passes _ _
-    (small-zero a.state.now c.seen-n.result c.if-state-ne28674.false c.seen-n.ensures.0 (omega arith) come.result rest.result
-    come.ensures rest.ensures a.mode b.result (omega arith) (omega arith) b.ensures (omega arith))
+returns c = go (ℕ_discrete c.largest-2.result 0)
+  where
+    go : Dec (c.largest-2.result ≡ 0) → eqb c.largest-2.result 0 ≡ is_state c.args.mode c.args.state.now
+    go (yes z) =
+        eq-eqb _ _ z
+        ∙ passes _ _
+        (small-zero c.args.state.now c.seen-n.result c.if-state-ne28674.false c.seen-n.ensures.0 (omega arith) c.largest.result c.largest-2.result
+        c.largest.ensures c.largest-2.ensures c.args.mode c.most_byte.result (omega arith) (omega arith) c.most_byte.ensures (omega arith))
+    go (no ne) =
+        ne_eqb _ _ ne
+        ∙ fails _ _
+        (λ w.
+        ne (omega (arith, rest-zero c.args.state.now c.seen-n.result w.long c.seen-n.ensures.0 (omega arith) c.largest-2.result c.args.mode c.largest-2.ensures w)))

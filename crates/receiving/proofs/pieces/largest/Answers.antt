@@ -1,9 +1,10 @@
--- The loop's invariant: of the bytes before i, no one is above `most`, and nothing smaller is so.
-use mathlib.Core.Path.{◌≡◌, sym, subst}
+-- The loop's invariant: of the bytes before it, no one is above `most`, and nothing smaller is so.
+use mathlib.Core.Path.{◌≡◌, sym, ◌∙◌, subst}
 use mathlib.Core.Logic.{◌⊎◌, inl, inr}
 use mathlib.Core.List.{List}
-use Prim.Native.Nat.{ℕ, ◌+◌, ◌≤◌}
-use native.Mathlib.Decide.{ℕ_discrete}
+use Prim.Native.Nat.{ℕ, max, ◌+◌, ◌<◌, ◌≤◌}
+use Rattle.std.proofs.Math.Nat.{le-max_left, le-max_right, max-eq_left, max-eq_right}
+use native.Mathlib.Decide.{ℕ_discrete, dec_lt}
 use native.Mathlib.Omega.{arith}
 use Rattle.rules.specs.Bits.{row}
 use Rattle.receiving.proofs.pieces.largest.Invariants.{Above}
@@ -22,20 +23,20 @@ least-next : (l : List ℕ) (i most new : ℕ) → ((b : ℕ) → Above l i b �
 least-next l i most new h (inl e) b all = omega (arith, h b (λ k lt. all k (omega arith)))
 least-next l i most new h (inr e) b all = omega (arith, all i (omega arith))
 
-pub loop-i-init : goal.loop-i-init
-loop-i-init c = (omega arith, (λ k h. absurd (omega arith)), λ b h. omega arith)
+-- the larger of two is one of them
+either : {a b r : ℕ} → r ≡ max a b → (r ≡ a) ⊎ (r ≡ b)
+either {a} {b} {r} e = go (dec_lt a b)
+  where
+    go : Dec (a < b) → (r ≡ a) ⊎ (r ≡ b)
+    go (yes h) = inr (e ∙ max-eq_right (omega arith))
+    go (no h) = inl (e ∙ max-eq_left (omega arith))
 
-pub loop-i-preserved : goal.loop-i-preserved
-loop-i-preserved c =
-    let l = c.loop-i in
+pub loop-b-preserved : goal.loop-b-preserved
+loop-b-preserved c =
+    let l = c.loop-b in
     let bytes = c.args.bytes.now in
-    let r = c.larger-most.ensures in (
-      omega arith,
-      above-next bytes l.i l.most c.larger-most.result l.invariant.1 r.0 r.1,
-      least-next bytes l.i l.most c.larger-most.result l.invariant.2 r.2,
+    let b : ℕ = row bytes l.b-index in
+    let is = c.max-most.ensures in (
+      above-next bytes l.b-index l.most c.max-most.result l.invariant.0 (omega (arith, is, le-max_left l.most b)) (omega (arith, is, le-max_right l.most b)),
+      least-next bytes l.b-index l.most c.max-most.result l.invariant.1 (either is),
     )
-
-pub returns : goal.returns
-returns c =
-    let l = c.loop-i in
-    record { above = λ i h. l.invariant.1 i (omega arith); least = λ b h. l.invariant.2 b (λ k lt. h k (omega arith)) }
