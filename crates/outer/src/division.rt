@@ -7,7 +7,7 @@ ghost use Rattle.laws.specs.Holds.{Holds};
 ghost use Rattle.outer.specs.Steps as steps;
 ghost use Rattle.outer.specs.Steps.{Starts, Says, divided};
 
-use super::products::times_plus;
+use field::Element;
 
 // The generators for r = 8, 4 and 2 from x^(r-1) down to 1, and ones after that, where nobody looks.
 const G8: [u8; 8] = [238, 245, 94, 235, 94, 245, 238, 1];
@@ -59,10 +59,10 @@ impl Parity {
         ensures { Starts self.r (divided self.r (row s) d) result }
     {
         let g = self.generator();
-        let q = d ^ s[0];
+        let q = Element(d) + Element(s[0]);
         let mut t = [0u8; 8];
         for i in 0..self.r {
-            t[i] = times_plus(q, g[i], self.below(s, i + 1));
+            t[i] = (Element(self.below(s, i + 1)) + q * Element(g[i])).0;
         }
         t
     }
