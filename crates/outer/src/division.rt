@@ -72,8 +72,8 @@ impl Parity {
         ensures { Starts self.r (rule.remainder self.r (row c) (16 - self.r)) result }
     {
         let mut s = [0u8; 8];
-        for p in 0..16 - self.r {
-            let next = self.step(s, c[p]);
+        for d in &c[..16 - self.r] {
+            let next = self.step(s, *d);
             s = next;
         }
         s
@@ -86,9 +86,7 @@ impl Parity {
         let s = self.remainder(c);
         let k = 16 - self.r;
         let mut w = c;
-        for i in 0..self.r {
-            w[k + i] = s[i];
-        }
+        w[k..k + self.r].copy_from_slice(&s[..self.r]);
         w
     }
 
@@ -96,11 +94,6 @@ impl Parity {
         ensures { Says (Codeword self.r (row c)) result }
     {
         let s = self.remainder(c);
-        for q in 0..self.r {
-            if c[16 - self.r + q] != s[q] {
-                return false;
-            }
-        }
-        true
+        &c[16 - self.r..] == &s[..self.r]
     }
 }
