@@ -7,7 +7,7 @@ ghost use Rattle.laws.specs.Holds.{Holds};
 ghost use Rattle.outer.specs.Steps as steps;
 ghost use Rattle.outer.specs.Steps.{Starts, Says, divided};
 
-use super::products::times_plus;
+use field::Element;
 
 // The generators for r = 8, 4 and 2 from x^(r-1) down to 1, and ones after that, where nobody looks.
 const G8: [u8; 8] = [238, 245, 94, 235, 94, 245, 238, 1];
@@ -59,10 +59,10 @@ impl Parity {
         ensures { Starts self.r (divided self.r (row s) d) result }
     {
         let g = self.generator();
-        let q = d ^ s[0];
+        let q = Element(d) + Element(s[0]);
         let mut t = [0u8; 8];
         for i in 0..self.r {
-            t[i] = times_plus(q, g[i], self.below(s, i + 1));
+            t[i] = (Element(self.below(s, i + 1)) + q * Element(g[i])).0;
         }
         t
     }
@@ -72,8 +72,8 @@ impl Parity {
         ensures { Starts self.r (rule.remainder self.r (row c) (16 - self.r)) result }
     {
         let mut s = [0u8; 8];
-        for p in 0..16 - self.r {
-            let next = self.step(s, c[p]);
+        for d in &c[..16 - self.r] {
+            let next = self.step(s, *d);
             s = next;
         }
         s
@@ -86,9 +86,7 @@ impl Parity {
         let s = self.remainder(c);
         let k = 16 - self.r;
         let mut w = c;
-        for i in 0..self.r {
-            w[k + i] = s[i];
-        }
+        w[k..k + self.r].copy_from_slice(&s[..self.r]);
         w
     }
 
@@ -96,11 +94,6 @@ impl Parity {
         ensures { Says (Codeword self.r (row c)) result }
     {
         let s = self.remainder(c);
-        for q in 0..self.r {
-            if c[16 - self.r + q] != s[q] {
-                return false;
-            }
-        }
-        true
+        &c[16 - self.r..] == &s[..self.r]
     }
 }

@@ -8,11 +8,11 @@ ghost use Rattle.rules.specs.Answers.{outcome_number};
 mod columns;
 mod division;
 mod matrix;
-mod products;
 mod solution;
 
 use division::Parity;
 use rules::OuterError;
+use solution::System;
 
 // Fills the last 16 - k packets with the parity of the k before them.
 pub fn fill_parity(k: u8, block: &mut [u8]) -> Result<(), OuterError>
@@ -41,14 +41,12 @@ pub fn restore(k: u8, lost: u16, block: &mut [u8]) -> Result<(), OuterError>
     let Some(block) = block.as_mut_array::<1952>() else {
         return Err(OuterError::BadLength);
     };
-    if lost.count_ones() > parity.r as u32 {
+    let Some(system) = System::of(parity, lost) else {
         return Err(OuterError::TooManyLost);
-    }
-    let m = matrix::rows(parity.r, lost);
-    let mut out = [0u8; 1952];
-    if !solution::all_solved(parity, lost, m, block, &mut out) {
+    };
+    let Some(out) = system.block(block) else {
         return Err(OuterError::NoCodeword);
-    }
-    block.copy_from_slice(&out);
+    };
+    *block = out;
     Ok(())
 }

@@ -1,5 +1,5 @@
 // The columns worked out, by the matrix for the lost packets.
-ghost use Rattle.std.specs.Prelude.{◌≡◌, ◌<◌, ◌≤◌};
+ghost use Rattle.std.specs.Prelude.{◌≡◌, ◌<◌, ◌≤◌, MatchOption};
 ghost use Rattle.std.specs.Int.Count.{ones};
 ghost use Rattle.rules.specs.Bits.{row};
 ghost use Rattle.rules.specs.Field.{◌⊕◌, ◌⊗◌};
@@ -12,30 +12,29 @@ ghost use Rattle.outer.specs.Steps.{Rows, Works};
 
 use super::columns::{kept, lost_at, put};
 use super::division::Parity;
-use super::products::times_plus;
+use super::matrix::rows;
 use field::Element;
 
 // Eight powers of α in a row, of which the first r are the roots.
-fn roots(r: usize) -> [u8; 8]
-    requires { r ≤ 8 }
-    ensures { Holds 0 8 (rule.root r) result }
+fn roots(parity: Parity) -> [u8; 8]
+    ensures { Holds 0 8 (rule.root parity.r) result }
 {
-    let mut power = Element::ALPHA.power(128 - (r as u32) / 2);
-    let mut x = [0u8; 8];
-    for j in 0..8 {
-        x[j] = power.0;
-        power = Element::ALPHA.product(power);
+    let mut power = Element::ALPHA.power(128 - (parity.r as u32) / 2);
+    let mut roots = [0u8; 8];
+    for x in roots.iter_mut() {
+        *x = power.0;
+        power = Element::ALPHA * power;
     }
-    x
+    roots
 }
 
-// The values v that a polynomial has at the places x, after one coefficient more.
+// The values v that a polynomial has at the places x, after one coefficient more. Three lists go by one position.
 fn after(x: [u8; 8], v: [u8; 8], c: u8) -> [u8; 8]
     ensures { Holds 0 8 (λ j. row x j ⊗ row v j ⊕ c) result }
 {
     let mut w = [0u8; 8];
     for j in 0..8 {
-        w[j] = times_plus(x[j], v[j], c);
+        w[j] = (Element(x[j]) * Element(v[j]) + Element(c)).0;
     }
     w
 }
@@ -46,66 +45,81 @@ fn values(x: [u8; 8], c: [u8; 16]) -> [u8; 8]
     ensures { Holds 0 8 (λ j. rule.value 16 (row c) (row x j)) result }
 {
     let mut v = [0u8; 8];
-    for p in 0..16 {
-        let next = after(x, v, c[p]);
+    for byte in c {
+        let next = after(x, v, byte);
         v = next;
     }
     v
 }
 
-fn dot(r: usize, a: [u8; 8], b: [u8; 8]) -> u8
-    requires { r ≤ 8 }
-    ensures { result ≡ sum r (λ j. row a j ⊗ row b j) }
+// The first r of both go by one position.
+fn dot(parity: Parity, a: [u8; 8], b: [u8; 8]) -> u8
+    ensures { result ≡ sum parity.r (λ j. row a j ⊗ row b j) }
 {
-    let mut v = 0u8;
-    for j in 0..r {
-        v = times_plus(a[j], b[j], v);
+    let mut v = Element::ZERO;
+    for j in 0..parity.r {
+        v = v + Element(a[j]) * Element(b[j]);
     }
-    v
+    v.0
 }
 
-// Column j, with the only bytes for the lost packets that can make a codeword; x has the roots.
-fn solved(
-    r: usize,
-    lost: u16,
-    x: [u8; 8],
-    m: [[u8; 8]; 8],
-    block: &[u8; 1952],
-    j: usize,
-) -> [u8; 16]
-    requires { (r ≤ 8) × (ones lost ≤ 8) × Holds 0 8 (rule.root r) x × Rows 16 r lost m × (j < 122) }
-    ensures { Holds 0 16 (solve.solved r lost (column block.now j)) result }
-{
-    let mut c = kept(lost, block, j);
-    let s = values(x, c);
-    let mut i = 0;
-    for p in 0..16 {
-        if lost_at(lost, p) {
-            c[p] = dot(r, m[i], s);
-            i += 1;
-        }
-    }
-    c
-}
-
-// All columns to out, up to one that has no codeword.
-pub(crate) fn all_solved(
+// How the lost packets follow from the others.
+#[derive(Drop)]
+pub(crate) struct System {
     parity: Parity,
     lost: u16,
-    m: [[u8; 8]; 8],
-    block: &[u8; 1952],
-    out: &mut [u8; 1952],
-) -> bool
-    requires { (ones lost ≤ 8) × Rows 16 parity.r lost m }
-    ensures { Works parity.r lost block.now out.new result }
-{
-    let x = roots(parity.r);
-    for j in 0..122 {
-        let c = solved(parity.r, lost, x, m, block, j);
-        if !parity.is_codeword(c) {
-            return false;
+    roots: [u8; 8],
+    rows: [[u8; 8]; 8],
+    ghost few: { ones lost ≤ 8 },
+    ghost powers: { Holds 0 8 (rule.root parity.r) roots },
+    ghost inverse: { Rows 16 parity.r lost rows },
+}
+
+impl System {
+    // Only where no more packets are lost than there are of parity.
+    pub(crate) fn of(parity: Parity, lost: u16) -> Option<System>
+        ensures { MatchOption result (parity.r < ones lost) (λ s. (ones lost ≤ parity.r) × (s.parity.r ≡ parity.r) × (s.lost ≡ lost)) }
+    {
+        if lost.count_ones() > parity.r as u32 {
+            return None;
         }
-        put(c, j, out);
+        Some(System {
+            parity,
+            lost,
+            roots: roots(parity),
+            rows: rows(parity, lost),
+        })
     }
-    true
+
+    // Column j, with the only bytes for the lost packets that can make a codeword.
+    fn column(&self, block: &[u8; 1952], j: usize) -> [u8; 16]
+        requires { j < 122 }
+        ensures { Holds 0 16 (solve.solved self.now.parity.r self.now.lost (column block.now j)) result }
+    {
+        let mut c = kept(self.lost, block, j);
+        let s = values(self.roots, c);
+        let mut i = 0;
+        for p in 0..16 {
+            if lost_at(self.lost, p) {
+                c[p] = dot(self.parity, self.rows[i], s);
+                i += 1;
+            }
+        }
+        c
+    }
+
+    // All columns, or nothing where one has no codeword.
+    pub(crate) fn block(&self, block: &[u8; 1952]) -> Option<[u8; 1952]>
+        ensures { Works self.now.parity.r self.now.lost block.now result }
+    {
+        let mut out = [0u8; 1952];
+        for j in 0..122 {
+            let c = self.column(block, j);
+            if !self.parity.is_codeword(c) {
+                return None;
+            }
+            put(c, j, &mut out);
+        }
+        Some(out)
+    }
 }

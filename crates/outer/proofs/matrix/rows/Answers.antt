@@ -69,14 +69,14 @@ loop-p-preserved c =
     let l = c.loop-p in
     let a = c.args in
     let is = c.lost_at.ensures in
-    let next = Placed a.r a.lost (l.p + 1) in (
+    let next = Placed a.parity.r a.lost (l.p + 1) in (
       omega arith,
       elim c.if-lost_at.branch [
         | then-lost_at w ↦ subst₂ next (sym w.m-is) (sym w.i-is)
-            (row_more a.r a.lost l.p l.invariant.1 _ (next_row a.lost l.p l.i (omega arith) (omega arith) (omega arith) (eqb-true _ _ (sym is ∙ w.if-lost_at.true)) l.invariant.1.place)
+            (row_more a.parity.r a.lost l.p l.invariant.1 _ (next_row a.lost l.p l.i (omega arith) (omega arith) (omega arith) (eqb-true _ _ (sym is ∙ w.if-lost_at.true)) l.invariant.1.place)
             (eqb-true _ _ (sym is ∙ w.if-lost_at.true)) w.entries.ensures)
         | else-lost_at w ↦ subst₂ next (sym w.m-is) (sym w.i-is)
-            (row_same a.r a.lost l.p l.invariant.1 (eqb-false _ _ (sym is ∙ w.if-lost_at.false)))
+            (row_same a.parity.r a.lost l.p l.invariant.1 (eqb-false _ _ (sym is ∙ w.if-lost_at.false)))
       ],
     )
 

@@ -15,4 +15,4 @@ pub record Placed (r lost p : ℕ) (m : List (List ℕ)) (i : ℕ) : Type 0 wher
   pub rows : Rows p r lost m
 
 abbrev pub invariant-loop-p : goal.invariant-loop-p
-invariant-loop-p l = (l.p ≤ 16) × Placed l.r l.lost l.p l.m l.i
+invariant-loop-p l = (l.p ≤ 16) × Placed l.parity.r l.lost l.p l.m l.i

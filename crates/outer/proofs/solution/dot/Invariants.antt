@@ -7,4 +7,4 @@ use Rattle.outer.specs.Solve.{sum}
 use Rattle.outer.proofs.solution.dot.Given as goal
 
 abbrev pub invariant-loop-j : goal.invariant-loop-j
-invariant-loop-j l = (l.j ≤ l.r) × (l.v ≡ sum l.j (λ j. row l.a j ⊗ row l.b j))
+invariant-loop-j l = (l.j ≤ l.fn.parity.r) × (l.v.0 ≡ sum l.j (λ j. row l.a j ⊗ row l.b j))

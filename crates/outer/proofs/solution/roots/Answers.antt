@@ -16,22 +16,22 @@ root-next r j =
     let e : 128 - r / 2 + (j + 1) ≡ n + 1 = omega arith in
     sym (double-is (alpha n) (alpha-lt n)) ∙ rw (e, add-one n)
 
-pub loop-j-init : goal.loop-j-init
-loop-j-init c =
-    let a = c.args in
-    let e : 128 - a.r / 2 ≡ 128 - a.r / 2 + 0 = omega arith in
-    (omega arith, c.power-power.ensures ∙ sym (alpha-is _) ∙ ap alpha e, holds-new 8 (root a.r))
+pub loop-x-init : goal.loop-x-init
+loop-x-init c =
+    let r : ℕ = c.args.parity.r in
+    let e : 128 - r / 2 ≡ 128 - r / 2 + 0 = omega arith in
+    (omega arith, c.power-power.ensures ∙ sym (alpha-is _) ∙ ap alpha e, holds-new 8 (root r))
 
-pub loop-j-preserved : goal.loop-j-preserved
-loop-j-preserved c =
-    let l = c.loop-j in
-    let a = c.args in (
+pub loop-x-preserved : goal.loop-x-preserved
+loop-x-preserved c =
+    let l = c.loop-x in
+    let r : ℕ = c.args.parity.r in (
       omega arith,
-      c.product-power.ensures ∙ ap (◌⊗◌ 2) l.invariant.1 ∙ root-next a.r l.j,
-      holds-next (root a.r) (λ k. 0) 0 l.j _ (omega arith) l.invariant.1 l.invariant.2,
+      c.mul-power.ensures ∙ ap (◌⊗◌ 2) l.invariant.1 ∙ root-next r l.x-index,
+      holds-next (root r) (λ k. 0) 0 l.x-index _ (omega arith) l.invariant.1 l.invariant.2,
     )
 
 pub returns : goal.returns
 returns c =
-    let l = c.loop-j in
-    holds-whole (root c.args.r) (λ k. 0) 0 l.j (omega arith) l.invariant.2
+    let l = c.loop-x in
+    holds-whole (root c.args.parity.r) (λ k. 0) 0 l.x-index (omega arith) l.invariant.2

@@ -6,5 +6,6 @@ use Rattle.laws.specs.Holds.{Holds}
 use Rattle.laws.specs.Filled.{up_to}
 use Rattle.outer.proofs.solution.roots.Given as goal
 
-abbrev pub invariant-loop-j : goal.invariant-loop-j
-invariant-loop-j l = (l.j ≤ 8) × (l.power.0 ≡ root l.r l.j) × Holds 0 8 (up_to l.j (root l.r) (λ k. 0)) l.x
+abbrev pub invariant-loop-x : goal.invariant-loop-x
+invariant-loop-x l =
+    (l.x-index ≤ 8) × (l.power.0 ≡ root l.fn.parity.r l.x-index) × Holds 0 8 (up_to l.x-index (root l.fn.parity.r) (λ k. 0)) l.x-items

@@ -1,4 +1,4 @@
--- The loop's invariant: v has the values of the first p coefficients.
+-- The loop's invariant: v has the values of the first coefficients.
 use mathlib.Core.Path.{◌≡◌, ap}
 use mathlib.Core.List.{List}
 use Prim.Native.Nat.{ℕ, ◌+◌}
@@ -19,15 +19,15 @@ unfolding value
 next x c v w p before h =
     rw (add-one p) (holds_as 0 _ (λ j lt. ap (λ (y : ℕ). row x j ⊗ y ⊕ row c p) (before.each j lt)) h)
 
-pub loop-p-init : goal.loop-p-init
+pub loop-byte-init : goal.loop-byte-init
 unfolding value
-loop-p-init c = (omega arith, record { long = length-replicate {A = ℕ} 8 0; each = λ j lt. get_or-replicate 8 j 0 0 lt })
+loop-byte-init c = (omega arith, record { long = length-replicate {A = ℕ} 8 0; each = λ j lt. get_or-replicate 8 j 0 0 lt })
 
-pub loop-p-preserved : goal.loop-p-preserved
-loop-p-preserved c =
-    let l = c.loop-p in
+pub loop-byte-preserved : goal.loop-byte-preserved
+loop-byte-preserved c =
+    let l = c.loop-byte in
     let a = c.args in
-    (omega arith, next a.x a.c l.v c.after-next.result l.p l.invariant.1 c.after-next.ensures)
+    (omega arith, next a.x a.c l.v c.after-next.result l.byte-index l.invariant.1 c.after-next.ensures)
 
 pub returns : goal.returns
-returns c = let l = c.loop-p in let end : l.p ≡ 16 = omega arith in rw end at l.invariant.1
+returns c = let l = c.loop-byte in let end : l.byte-index ≡ 16 = omega arith in rw end at l.invariant.1

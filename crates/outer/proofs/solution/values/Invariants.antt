@@ -1,4 +1,4 @@
--- The loop's invariant: v has the values of the first p coefficients.
+-- The loop's invariant: v has the values of the first coefficients.
 use mathlib.Core.List.{List}
 use Prim.Native.Nat.{ℕ, ◌≤◌}
 use Rattle.rules.specs.Bits.{row}
@@ -9,5 +9,5 @@ use Rattle.outer.proofs.solution.values.Given as goal
 abbrev pub values_of : List ℕ → List ℕ → ℕ → ℕ → ℕ
 values_of x c p j = value p (row c) (row x j)
 
-abbrev pub invariant-loop-p : goal.invariant-loop-p
-invariant-loop-p l = (l.p ≤ 16) × Holds 0 8 (values_of l.x l.c l.p) l.v
+abbrev pub invariant-loop-byte : goal.invariant-loop-byte
+invariant-loop-byte l = (l.byte-index ≤ 16) × Holds 0 8 (values_of l.x l.byte-items l.byte-index) l.v

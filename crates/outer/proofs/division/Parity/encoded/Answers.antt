@@ -1,41 +1,46 @@
--- The loop's invariant: the data and the first i parity bytes are the codeword's.
-use mathlib.Core.Path.{◌≡◌, sym, ◌∙◌}
-use Prim.Native.Nat.{ℕ, ◌+◌, ◌-◌, ◌<◌}
+-- The data stand, and the parity is written after them.
+use mathlib.Core.Path.{◌≡◌, sym, ap, ◌∙◌}
+use mathlib.Core.List.{List, ◌++◌}
+use Prim.Native.Nat.{ℕ, ◌+◌, ◌-◌, ◌≤◌, ◌<◌}
 use native.Mathlib.Decide.{dec_lt}
-use Rattle.rules.specs.Bits.{row}
-use Rattle.rules.specs.Outer.{encoded}
-use Rattle.laws.specs.Filled.{up_to, up_to-below, up_to-from, holds-next, holds-whole}
-use Rattle.outer.proofs.Roots.{encoded-data, encoded-parity}
 use native.Mathlib.Omega.{arith}
+use lib.ListN.{length, take, drop}
+use borrow.Rule.Slice.PartMut.{put_mid}
+use Rattle.std.proofs.lemmas.List.{length-append, length-take-le, length-drop, get_or_append_left, get_or-append_right, get_or-take}
+use Rattle.rules.specs.Bits.{row}
+use Rattle.rules.specs.Outer.{encoded, remainder}
+use Rattle.laws.specs.Holds.{Holds}
+use Rattle.outer.specs.Steps.{Starts}
+use Rattle.outer.proofs.Roots.{encoded-data, encoded-parity}
 use Rattle.outer.proofs.division.Parity.encoded.Goals as goal
 
--- before the first turn
-data-stands : (r n : ℕ) (d : ℕ → ℕ) (p : ℕ) → n ≡ 16 - r → d p ≡ up_to n (encoded r d) d p
-data-stands r n d p e = go (dec_lt p n)
+written : (r k n : ℕ) (c s t : List ℕ) → r ≤ 8 → k ≡ 16 - r → n ≡ r → length c ≡ 16 → length s ≡ 8 → t ≡ take r s
+    → Starts r (remainder r (row c) (16 - r)) s → Holds 0 16 (encoded r (row c)) (put_mid k n c t)
+written r k n c s t most ek en lc ls et h = record { long = long; each = λ p l. go p l (dec_lt p k) }
   where
-    go : Dec (p < n) → d p ≡ up_to n (encoded r d) d p
-    go (yes h) = sym (up_to-below (encoded r d) d n p h ∙ encoded-data r d p (omega arith))
-    go (no h) = sym (up_to-from (encoded r d) d n p (omega arith))
+    front : length (take k c) ≡ k
+    front = length-take-le k c (omega arith)
 
-pub loop-i-init : goal.loop-i-init
-loop-i-init c =
-    let a = c.args in
-    (omega arith, record { long = c.well_formed.1.0.1.0.1; each = λ p l. data-stands a.self.r _ (row a.c) p (omega arith) })
+    mid : length t ≡ r
+    mid = ap length et ∙ length-take-le r s (omega arith)
 
-pub loop-i-preserved : goal.loop-i-preserved
-loop-i-preserved c =
-    let l = c.loop-i in
-    let a = c.args in
-    let f = encoded a.self.r (row a.c) in
-    let more : 16 - a.self.r + (l.i + 1) ≡ 16 - a.self.r + l.i + 1 = omega arith in (
-      omega arith,
-      rw more
-          (holds-next f (row a.c) 0 (16 - a.self.r + l.i) _ (omega arith)
-          (c.remainder-s.ensures l.i (omega arith) ∙ sym (encoded-parity a.self.r (row a.c) l.i)) l.invariant.1),
-    )
+    rest : List ℕ
+    rest = drop n (drop k c)
+
+    long : length (put_mid k n c t) ≡ 16
+    long = omega (arith, front, mid, length-append (take k c) (t ++ rest), length-append t rest, length-drop n (drop k c), length-drop k c)
+
+    go : (p : ℕ) → p < 16 → Dec (p < k) → row (put_mid k n c t) p ≡ encoded r (row c) p
+    go p l (yes h') =
+        get_or_append_left (take k c) (t ++ rest) 0 p (omega (arith, front)) ∙ get_or-take k c p 0 h' ∙ sym (encoded-data r (row c) p (omega arith))
+    go p l (no h') =
+        let i : ℕ = p - k in
+        let place : 16 - r + i ≡ p = omega arith in
+        get_or-append_right (take k c) (t ++ rest) k p 0 front (omega arith) ∙ get_or_append_left t rest 0 i (omega (arith, mid)) ∙ ap (λ (m : List ℕ). row m i) et
+        ∙ get_or-take r s i 0 (omega arith) ∙ h i (omega arith) ∙ sym (encoded-parity r (row c) i) ∙ ap (encoded r (row c)) place
 
 pub returns : goal.returns
 returns c =
-    let l = c.loop-i in
     let a = c.args in
-    holds-whole (encoded a.self.r (row a.c)) (row a.c) 0 (16 - a.self.r + l.i) (omega arith) l.invariant.1
+    written a.self.r _ _ a.c c.remainder-s.result c.copy_from_slice.new.self a.self.few (omega arith) (omega arith) (omega arith) (omega arith)
+    c.copy_from_slice.ensures.after c.remainder-s.ensures

@@ -1,10 +1,11 @@
--- The loop's invariant: the register holds the remainder of the first p bytes.
-use mathlib.Core.Path.{◌≡◌, ap₂, ◌∙◌}
+-- The loop's invariant: the register holds the remainder of the first bytes.
+use mathlib.Core.Path.{◌≡◌, ap, ap₂, ◌∙◌}
 use mathlib.Core.List.{List}
-use Prim.Native.Nat.{ℕ, suc, ◌+◌, ◌-◌, ◌<◌}
+use Prim.Native.Nat.{ℕ, suc, ◌+◌, ◌-◌, ◌≤◌, ◌<◌}
 use native.Mathlib.Decide.{dec_lt}
 use native.Mathlib.Numerals.{add-one}
-use lib.ListN.{get_or-replicate}
+use lib.ListN.{length, take, get_or-replicate}
+use Rattle.std.proofs.lemmas.List.{length-take-le, get_or-take}
 use borrow.Author.Tests.{lt-ltb, le-ltb}
 use Rattle.rules.specs.Bits.{row}
 use Rattle.rules.specs.Field.{◌⊕◌, ◌⊗◌}
@@ -26,15 +27,30 @@ unfolding remainder
 next r n d s t before now i l =
     rw (add-one n) (now i l ∙ ap₂ (λ (x y : ℕ). x ⊕ (d n ⊕ y) ⊗ generator r i) (below-same r before (suc i)) (before 0 (omega arith)))
 
-pub loop-p-init : goal.loop-p-init
+pub loop-d-init : goal.loop-d-init
 unfolding remainder
-loop-p-init c = (omega arith, λ i m. get_or-replicate 8 i 0 0 (omega arith))
+loop-d-init c = (omega arith, λ i m. get_or-replicate 8 i 0 0 (omega arith))
 
-pub loop-p-preserved : goal.loop-p-preserved
-loop-p-preserved c =
-    let l = c.loop-p in
+-- the bytes that the loop walks
+walked : (n : ℕ) (c : List ℕ) → n ≤ 16 → length c ≡ 16 → length (take n c) ≡ n
+walked n c le long = length-take-le n c (omega (arith, long))
+
+pub loop-d-preserved : goal.loop-d-preserved
+loop-d-preserved c =
+    let l = c.loop-d in
     let a = c.args in
-    (omega arith, next a.self.r l.p (row a.c) l.s c.step-next.result l.invariant.1 c.step-next.ensures)
+    let r : ℕ = a.self.r in
+    let long = walked (16 - r) a.c (omega arith) (omega arith) in
+    let lt : l.d-index < 16 - r = omega (arith, long) in (
+      omega (arith, long),
+      next r l.d-index (row a.c) l.s c.step-next.result l.invariant.1
+          (λ i m. c.step-next.ensures i m ∙ ap (λ (x : ℕ). divided r (row l.s) x i) (get_or-take (16 - r) a.c l.d-index 0 lt)),
+    )
 
 pub returns : goal.returns
-returns c = let l = c.loop-p in let end : l.p ≡ 16 - c.args.self.r = omega arith in rw end at l.invariant.1
+returns c =
+    let l = c.loop-d in
+    let r : ℕ = c.args.self.r in
+    let long = walked (16 - r) c.args.c (omega arith) (omega arith) in
+    let end : l.d-index ≡ 16 - r = omega (arith, long) in
+    rw end at l.invariant.1

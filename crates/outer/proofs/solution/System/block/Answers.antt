@@ -10,7 +10,7 @@ use Rattle.outer.specs.Solve.{solved}
 use Rattle.outer.specs.Steps.{Put, Says, Solved}
 use Rattle.outer.proofs.Roots.{codeword-same}
 use native.Mathlib.Omega.{arith}
-use Rattle.outer.proofs.solution.all_solved.Goals as goal
+use Rattle.outer.proofs.solution.System.block.Goals as goal
 
 -- a turn
 column-more : (r lost j : ℕ) (block out out' c : List ℕ) → r ≤ 8 → j < 122 → Solved j r lost block out → Holds 0 16 (solved r lost (column block j)) c
@@ -23,28 +23,23 @@ column-more r lost j block out out' c most lt before h good put =
 pub loop-j-init : goal.loop-j-init
 loop-j-init c = (omega arith, omega arith, λ i l. absurd (omega arith))
 
-pub solved-c-requires : goal.solved-c-requires
-solved-c-requires c =
-    let h = c.requires in
-    (omega arith, h.0, c.roots-x.ensures, h.1, omega arith)
-
 pub returns-then-not-is_codeword : goal.returns-then-not-is_codeword
 returns-then-not-is_codeword c =
     let l = c.loop-j in
-    let s = c.solved-c in
+    let s = c.column-c in
     let t = c.is_codeword in
-    let none = subst (Says (Codeword c.args.parity.r (row s.result))) (c.if-not-is_codeword.true) t.ensures in
+    let none = subst (Says (Codeword c.args.self.now.parity.r (row s.result))) (c.if-not-is_codeword.true) t.ensures in
     (l.j, omega arith, λ w. none (codeword-same (omega arith) s.ensures.each w))
 
 pub loop-j-preserved : goal.loop-j-preserved
 loop-j-preserved c =
     let l = c.loop-j in
-    let s = c.solved-c in
+    let s = c.column-c in
     let t = c.is_codeword in
-    let good = subst (Says (Codeword c.args.parity.r (row s.result))) (c.if-not-is_codeword.false) t.ensures in (
+    let good = subst (Says (Codeword c.args.self.now.parity.r (row s.result))) (c.if-not-is_codeword.false) t.ensures in (
       omega arith,
       c.put.ensures.long,
-      column-more c.args.parity.r c.args.lost l.j c.args.block.now l.out _ s.result (omega arith) (omega arith)
+      column-more c.args.self.now.parity.r c.args.self.now.lost l.j c.args.block.now l.out _ s.result (omega arith) (omega arith)
           l.invariant.2 s.ensures good c.put.ensures,
     )
 

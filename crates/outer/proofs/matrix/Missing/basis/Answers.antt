@@ -11,8 +11,8 @@ use Rattle.laws.specs.Holds.{Holds, holds_as}
 use Rattle.outer.specs.Solve.{other, node, raised, basis}
 use Rattle.laws.specs.Filled.{holds-computed}
 use native.Mathlib.Omega.{arith}
-use Rattle.outer.proofs.matrix.basis.Goals.{else-other, then-other}
-use Rattle.outer.proofs.matrix.basis.Goals as goal
+use Rattle.outer.proofs.matrix.Missing.basis.Goals.{else-other, then-other}
+use Rattle.outer.proofs.matrix.Missing.basis.Goals as goal
 
 raised-same : (n : ℕ) {f g : ℕ → ℕ} → ((k : ℕ) → k < n → f k ≡ g k) → (j : ℕ) → j < n → raised f j ≡ raised g j
 unfolding raised
@@ -33,16 +33,16 @@ module _ (t : ℕ → Bool) (n : ℕ) {b : List ℕ} where
 
 pub loop-n-init : goal.loop-n-init
 unfolding basis
-loop-n-init c = (omega arith, holds-computed 8 (basis (other c.args.lost c.args.p) 0) _ refl tt)
+loop-n-init c = (omega arith, holds-computed 8 (basis (other c.args.self.lost c.args.self.p) 0) _ refl tt)
 
 pub loop-n-preserved : goal.loop-n-preserved
 loop-n-preserved c =
     let l = c.loop-n in
     let a = c.args in
-    let t = other a.lost a.p in
+    let t = other a.self.lost a.self.p in
     let is = c.other.ensures in (
       omega arith,
-      elim c.if-other.branch [ then-other w ↦ rw w.b-is (factor t l.n (sym is ∙ w.if-other.true) w.node.ensures l.invariant.1 w.grown-next.ensures) | else-other w ↦ rw w.b-is (no-factor t l.n (sym is ∙ w.if-other.false) l.invariant.1) ],
+      elim c.if-other.branch [ then-other w ↦ rw w.b-is (factor t l.n (sym is ∙ w.if-other.true) w.node.ensures l.invariant.1 w.grow.ensures) | else-other w ↦ rw w.b-is (no-factor t l.n (sym is ∙ w.if-other.false) l.invariant.1) ],
     )
 
 pub returns : goal.returns

@@ -15,9 +15,9 @@ use Rattle.laws.specs.Filled.{holds-first, holds-next, holds-skip, holds-whole}
 use Rattle.outer.proofs.Ones.{tally-next, place-lt}
 use Rattle.outer.proofs.Poly.{sum_same, value_same}
 use native.Mathlib.Omega.{arith}
-use Rattle.outer.proofs.solution.solved.Invariants.{Worked}
-use Rattle.outer.proofs.solution.solved.Goals.{Then-lost_at, else-lost_at, then-lost_at}
-use Rattle.outer.proofs.solution.solved.Goals as goal
+use Rattle.outer.proofs.solution.System.column.Invariants.{Worked}
+use Rattle.outer.proofs.solution.System.column.Goals.{Then-lost_at, else-lost_at, then-lost_at}
+use Rattle.outer.proofs.solution.System.column.Goals as goal
 
 module _ (r lost : ℕ) (d : ℕ → ℕ) (p : ℕ) {c : List ℕ} {i : ℕ} (f : Worked r lost d p c i) where
   -- a turn at a lost packet
@@ -57,24 +57,24 @@ room : (c : Then-lost_at) → c.loop-p.i < 8
 room c =
     let l = c.loop-p in
     let a = c.args in
-    let on : marked a.lost l.p ≡ 1 = eqb-true _ _ (sym c.lost_at.ensures ∙ c.if-lost_at.true) in
-    omega (arith, place-lt a.lost l.p (omega arith) (omega arith) (omega arith) on, l.invariant.1.place)
+    let on : marked a.self.now.lost l.p ≡ 1 = eqb-true _ _ (sym c.lost_at.ensures ∙ c.if-lost_at.true) in
+    omega (arith, place-lt a.self.now.lost l.p (omega arith) a.self.now.few (omega arith) on, l.invariant.1.place)
 
 pub kept-c-requires : goal.kept-c-requires
-kept-c-requires c = c.requires.4
+kept-c-requires c = c.requires
 
 pub loop-p-init : goal.loop-p-init
 unfolding tally
 loop-p-init c =
     let a = c.args in
     let d = column a.block.now a.j in
-    (omega arith, record { place = refl; bytes = holds-first (solved a.r a.lost d) (kept a.lost d) 0 c.kept-c.ensures })
+    (omega arith, record { place = refl; bytes = holds-first (solved a.self.now.parity.r a.self.now.lost d) (kept a.self.now.lost d) 0 c.kept-c.ensures })
 
-pub offset_bounds-m-i : goal.offset_bounds-m-i
-offset_bounds-m-i c = omega (arith, room (goal.at.offset_bounds-m-i c).Then-lost_at)
+pub offset_bounds-self-i : goal.offset_bounds-self-i
+offset_bounds-self-i c = omega (arith, room (goal.at.offset_bounds-self-i c).Then-lost_at)
 
-pub bounds-m-i : goal.bounds-m-i
-bounds-m-i c = room (goal.at.bounds-m-i c).Then-lost_at
+pub bounds-self-i : goal.bounds-self-i
+bounds-self-i c = room (goal.at.bounds-self-i c).Then-lost_at
 
 pub overflow_add-i : goal.overflow_add-i
 overflow_add-i c = omega (arith, room (goal.at.overflow_add-i c).Then-lost_at)
@@ -83,22 +83,21 @@ pub loop-p-preserved : goal.loop-p-preserved
 loop-p-preserved c =
     let l = c.loop-p in
     let a = c.args in
-    let h = c.requires in
     let d = column a.block.now a.j in
     let is = c.lost_at.ensures in
     let lt : l.p < 16 = omega arith in
-    let next = Worked a.r a.lost d (l.p + 1) in (
+    let next = Worked a.self.now.parity.r a.self.now.lost d (l.p + 1) in (
       omega arith,
       elim c.if-lost_at.branch [
         | then-lost_at w ↦ let on = sym is ∙ w.if-lost_at.true in
             subst₂ next (sym w.c-is) (sym w.i-is)
-            (byte_more a.r a.lost d l.p l.invariant.1 _ lt (eqb-true _ _ on)
+            (byte_more a.self.now.parity.r a.self.now.lost d l.p l.invariant.1 _ lt (eqb-true _ _ on)
             (w.dot.ensures
-            ∙ lost-byte a.r a.lost d l.p l.i a.m c.values-s.result c.kept-c.result lt on l.invariant.1.place
-            h.3 c.kept-c.ensures (at-roots a.r a.x c.kept-c.result c.values-s.result h.0 h.2 c.values-s.ensures)))
+            ∙ lost-byte a.self.now.parity.r a.self.now.lost d l.p l.i a.self.now.rows c.values-s.result c.kept-c.result lt on l.invariant.1.place
+            a.self.now.inverse c.kept-c.ensures (at-roots a.self.now.parity.r a.self.now.roots c.kept-c.result c.values-s.result a.self.now.parity.few a.self.now.powers c.values-s.ensures)))
         | else-lost_at w ↦ let off = sym is ∙ w.if-lost_at.false in
             subst₂ next (sym w.c-is) (sym w.i-is)
-            (byte-same a.r a.lost d l.p l.invariant.1 (eqb-false _ _ off) (kept_byte_lem a.r a.lost d l.p off))
+            (byte-same a.self.now.parity.r a.self.now.lost d l.p l.invariant.1 (eqb-false _ _ off) (kept_byte_lem a.self.now.parity.r a.self.now.lost d l.p off))
       ],
     )
 
@@ -107,4 +106,4 @@ returns c =
     let l = c.loop-p in
     let a = c.args in
     let d = column a.block.now a.j in
-    holds-whole (solved a.r a.lost d) (kept a.lost d) 0 l.p (omega arith) l.invariant.1.bytes
+    holds-whole (solved a.self.now.parity.r a.self.now.lost d) (kept a.self.now.lost d) 0 l.p (omega arith) l.invariant.1.bytes

@@ -6,7 +6,7 @@ use Rattle.rules.specs.Outer.{marked, column}
 use Rattle.laws.specs.Holds.{Holds}
 use Rattle.outer.specs.Solve.{tally, kept, solved}
 use Rattle.laws.specs.Filled.{up_to}
-use Rattle.outer.proofs.solution.solved.Given as goal
+use Rattle.outer.proofs.solution.System.column.Given as goal
 
 pub record Worked (r lost : ℕ) (d : ℕ → ℕ) (p : ℕ) (c : List ℕ) (i : ℕ) : Type 0 where
   pub place : i ≡ tally (marked lost) p
@@ -14,4 +14,4 @@ pub record Worked (r lost : ℕ) (d : ℕ → ℕ) (p : ℕ) (c : List ℕ) (i :
 
 abbrev pub invariant-loop-p : goal.invariant-loop-p
 invariant-loop-p l =
-    (l.p ≤ 16) × Worked l.r l.lost (column l.block l.j) l.p l.c l.i
+    (l.p ≤ 16) × Worked l.self.parity.r l.self.lost (column l.block l.j) l.p l.c l.i
