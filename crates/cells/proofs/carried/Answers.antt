@@ -1,10 +1,8 @@
 -- `cells::carried` meets its contract.
-use mathlib.Core.Path.{sym, ◌∙◌, ap}
-use Prim.Native.Nat.{ℕ}
+use mathlib.Core.Path.{sym, ◌∙◌}
 use native.Mathlib.Omega.{arith}
 use borrow.Author.Tests.{ltb-true, ltb-false}
 use Rattle.rules.specs.Modes.{symbols}
-use Rattle.rules.specs.Cells.{carried}
 use Rattle.cells.proofs.Within.{slots-lt}
 use Rattle.cells.proofs.Inverse.{carried-past}
 use Rattle.cells.proofs.carried.Goals as goal
@@ -14,9 +12,6 @@ cell-requires c =
     let a = c.args in
     let inside = ltb-true a.symbol (symbols a.mode) (sym c.in_grid.ensures ∙ c.if-in_grid.true) in
     omega (arith, slots-lt a.mode)
-
-pub returns-then-in_grid : goal.returns-then-in_grid
-returns-then-in_grid c = c.cell.ensures ∙ ap (λ (m : ℕ). carried m c.args.symbol c.args.c) c.of.ensures
 
 pub returns-else-in_grid : goal.returns-else-in_grid
 returns-else-in_grid c =
