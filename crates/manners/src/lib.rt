@@ -17,7 +17,7 @@ mod refuse;
 pub mod twin;
 pub mod words;
 
-ghost use Rattle.std.specs.Prelude.{◌≡◌, ◌≤◌, length, IfOk, Ok};
+ghost use Rattle.std.specs.Prelude.{◌≡◌, ◌≤◌, length, IfOk, Ok, is_ok};
 
 use std::env::{Env, FillError};
 use std::fmt::Display;
@@ -114,41 +114,37 @@ impl Program<'_> {
 // What a program says on standard error.
 impl Program<'_> {
     // A line there; where that can't be written, there is nobody to tell.
-    pub fn say(self, line: impl Display + Drop) {
+    pub fn say(self, line: impl Display + Drop) -> Said {
         let _ = self.rt.eprintln(line);
+        Said
     }
 
     // The line for a use that a program does not take.
-    pub fn usage(self, words: &str) {
-        self.say(format_args!("usage: {words}"));
+    pub fn usage(self, words: &str) -> Said {
+        self.say(format_args!("usage: {words}"))
     }
 
     // That what a program compared isn't the same: its result, for the exit status.
-    pub fn differ(self) {
-        self.say(format_args!("{}: cells differ", self.name));
+    pub fn differ(self) -> Said {
+        self.say(format_args!("{}: cells differ", self.name))
     }
 
     // Trouble, by words: what the program can't do, and why.
-    pub fn cannot_since(self, what: impl Display + Drop, why: &str) {
-        self.say(format_args!("{}: cannot {what}: {why}", self.name));
+    pub fn cannot_since(self, what: impl Display + Drop, why: &str) -> Said {
+        self.say(format_args!("{}: cannot {what}: {why}", self.name))
     }
 
     // Trouble, by the system's error: what the program can't do.
-    pub fn cannot(self, what: impl Display + Drop, e: &Error) {
-        self.say(format_args!("{}: cannot {what}: {}", self.name, SystemWords(e)));
+    pub fn cannot(self, what: impl Display + Drop, e: &Error) -> Said {
+        self.say(format_args!("{}: cannot {what}: {}", self.name, SystemWords(e)))
     }
 
     // What a program tried gave; trouble is said.
     pub fn tried<T>(self, what: impl Display + Drop, outcome: io::Result<T>) -> Result<T, Said>
-        ensures { IfOk result (λ x. outcome ≡ Ok x) }
+        ensures value { IfOk result (λ x. outcome ≡ Ok x) }
+        ensures same { is_ok result ≡ is_ok outcome }
     {
-        match outcome {
-            Ok(x) => Ok(x),
-            Err(e) => {
-                self.cannot(what, &e);
-                Err(Said)
-            }
-        }
+        outcome.map_err(|e| self.cannot(what, &e))
     }
 }
 

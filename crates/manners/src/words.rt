@@ -32,7 +32,7 @@ pub struct SystemWords<'a>(pub &'a Error);
 
 impl fmt::Display for SystemWords<'_> {
     fn fmt<W: fmt::Write>(&self, f: &mut fmt::Formatter<W>) -> fmt::Result {
-        let mut said = Text::new();
+        let mut said = Text::<ROOM>::new();
         write!(said, "{}", self.0)?;
         let all = said.as_str();
         match all.rsplit_once(" (os error ") {
@@ -45,32 +45,35 @@ impl fmt::Display for SystemWords<'_> {
 // Room for what std says of an error: words of at most 256 bytes, and the error's number.
 const ROOM: usize = 288;
 
-// Some text; what finds no room is left out.
+// Text in fixed memory: what finds no room in it is an error.
 #[derive(Drop)]
-struct Text {
-    bytes: [u8; ROOM],
+pub struct Text<const N: usize> {
+    bytes: [u8; N],
     len: usize,
-    ghost fits: { len ≤ 288 },
+    ghost fits: { len ≤ N },
 }
 
-impl Text {
-    fn new() -> Text {
+impl<const N: usize> Text<N> {
+    pub fn new() -> Text<N> {
         Text {
-            bytes: [0; ROOM],
+            bytes: [0; N],
             len: 0,
         }
     }
 
-    fn as_str(&self) -> &str {
+    pub fn as_str(&self) -> &str {
         str::from_utf8(&self.bytes[..self.len]).unwrap_or("")
     }
 }
 
-impl fmt::Write for Text {
+impl<const N: usize> fmt::Write for Text<N> {
     fn write_str(&mut self, s: &str) -> fmt::Result {
-        let n = s.len().min(ROOM - self.len);
-        let end = self.len + n;
-        self.bytes[self.len..end].copy_from_slice(&s.as_bytes()[..n]);
+        if N - self.len < s.len() {
+            return Err(fmt::Error);
+        }
+        let end = self.len + s.len();
+        let room = &mut self.bytes[..];
+        room[self.len..end].copy_from_slice(s.as_bytes());
         self.len = end;
         Ok(())
     }
