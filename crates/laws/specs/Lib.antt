@@ -14,3 +14,4 @@ pub mod Parts
 pub mod Points
 pub mod Mask
 pub mod Run
+pub mod Refused

@@ -1,5 +1,5 @@
 -- A field's header, its value and the bytes after the last field, each judged at a position, are the walk of document 01.
-use mathlib.Core.Path.{◌≡◌, refl, sym, ◌∙◌, ap}
+use mathlib.Core.Path.{◌≡◌, refl, sym, ◌∙◌, ap, subst}
 use mathlib.Core.Bool.{Bool, true, false, not}
 use mathlib.Core.List.{List, [], ◌∷◌}
 use Prim.Native.Nat.{ℕ, ◌+◌, ◌*◌, ◌-◌, ◌<◌, ◌≤◌}
@@ -17,8 +17,7 @@ use Rattle.rules.specs.Answers.{Answer}
 use Rattle.rules.specs.declared.Profile.{Profile}
 use Rattle.rules.specs.Profile.{Reading}
 use Rattle.profile.specs.Fields.{none, many, field, heading, ending}
-use Rattle.profile.specs.Reader.{refused_at, taken}
-use Rattle.profile.specs.declared.reader.Step.{Step}
+use Rattle.profile.specs.Reader.{Step, refused_at, taken}
 
 -- ---- what a header says, test by test
 
@@ -228,10 +227,11 @@ module _ {s : List ℕ} {p : Profile} {at i : ℕ} (h : Walking s p at i) (le : 
   over : walked s ≡ pick (eqb n 0) (record { number = 0; place = 0; profile = p }) (refused (only n))
   over = h.rest ∙ rw (drop_of_length-le fields le, e) (walk_end at p (drop at s))
 
-  pub walk-surplus : (n ≡ 0 → ⊥) → refused (only n) ≡ reading s
-  walk-surplus ne =
-      let e : walked s ≡ refused (only n) = over ∙ rw (ne_eqb n 0 ne) in
-      sym (ap untwinned e ∙ untwinned-stays (refused (only n)) ne)
+  pub walk-surplus : {a : Answer} → a ≡ only n → (a.number ≡ 0 → ⊥) → refused a ≡ reading s
+  walk-surplus f ne =
+      let no = subst (λ (b : Answer). b.number ≡ 0 → ⊥) f ne in
+      let e : walked s ≡ refused (only n) = over ∙ rw (ne_eqb n 0 no) in
+      ap refused f ∙ sym (ap untwinned e ∙ untwinned-stays (refused (only n)) no)
 
   module _ (z : n ≡ 0) {a : Answer} (f : a ≡ twin_fault p) where
     found : reading s ≡ unless a (record { number = 0; place = 0; profile = p })
@@ -266,9 +266,9 @@ module _ {p : Profile} {at i : ℕ} (h : Finding p at i) where
         let e : fault_from fields 0 p ≡ a = next-fault ∙ rw (ne_eqb a.number 0 ne) in
         sym (ap (λ (b : Answer). b or twin_fault p) e ∙ rw (ne_eqb a.number 0 ne))
 
-    pub find-more : a.number ≡ 0 → (due : ℕ) → due ≡ (field i).due p → due < 256 → Finding p (at + 3 + due) (i + 1)
+    pub find-more : a.number ≡ 0 → (due : ℕ) → due ≡ (field i).due p → due < 256 → Finding p (at + (3 + due)) (i + 1)
     find-more z due d l =
-        record { within = omega arith; room = omega (arith, h.room); rest = next-fault ∙ rw (eq-eqb a.number 0 z, d) }
+        record { within = omega arith; room = omega (arith, h.room); rest = next-fault ∙ rw (eq-eqb a.number 0 z, d, add_assoc at 3) refl }
 
   pub find-done : many ≤ i → twin_fault p ≡ fault p
   unfolding fault

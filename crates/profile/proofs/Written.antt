@@ -1,5 +1,5 @@
 -- Storing the fields one after another gives the written bytes.
-use mathlib.Core.Path.{◌≡◌, refl, ◌∙◌, ap}
+use mathlib.Core.Path.{◌≡◌, refl, ◌∙◌, ap, subst}
 use mathlib.Core.List.{List, [], ◌∷◌, ◌++◌}
 use Prim.Native.Nat.{ℕ, zero, suc, ◌+◌, ◌*◌, ◌/◌, ◌%◌, ◌<◌, ◌≤◌}
 use native.Mathlib.Omega.{arith}
@@ -8,6 +8,7 @@ use lib.Seq.{length-take-le, sets}
 use Rattle.rules.specs.Profile.{Field, fault, fields, field_bytes, faultless, largest, written, writing}
 use borrow.Author.Tests.{eq-eqb, ne_eqb}
 use Rattle.rules.specs.Modes.{slots}
+use Rattle.rules.specs.Answers.{Answer}
 use Rattle.rules.specs.declared.Profile.{Profile}
 use Rattle.profile.specs.Fields.{field, many}
 use Rattle.rules.specs.Profile.{Shape}
@@ -65,7 +66,7 @@ module _ {s₀ : List ℕ} {p : Profile} {s : List ℕ} {at i : ℕ} (h : Storin
           d,
         )
 
-    pub store-more : {s₁ s₂ : List ℕ} → s₁ ≡ sets s at head → s₂ ≡ sets s₁ (at + 3) ((field i).bytes p) → Storing s₀ p s₂ (at + 3 + due) (i + 1)
+    pub store-more : {s₁ s₂ : List ℕ} → s₁ ≡ sets s at head → s₂ ≡ sets s₁ (at + 3) ((field i).bytes p) → Storing s₀ p s₂ (at + (3 + due)) (i + 1)
     store-more {s₁} {s₂} e₁ e₂ =
         record {
           within = omega arith;
@@ -79,13 +80,13 @@ module _ {s₀ : List ℕ} {p : Profile} {s : List ℕ} {at i : ℕ} (h : Storin
 
 -- ---- the answer
 
-pub writing-of : (p : Profile) → Shape p → (bytes : List ℕ) (count : ℕ) → (fault p).number ≡ 0
+pub writing-done : (p : Profile) → Shape p → (bytes : List ℕ) (count : ℕ) → (fault p).number ≡ 0
     → count ≡ length (written p) → bytes ≡ sets (replicate largest 0) 0 (written p)
     → record { number = 0; place = 0; bytes = bytes; count = count } ≡ writing p
 unfolding faultless
-writing-of p z bytes count g c e = rw (e ∙ sets_front 0 largest (written p) (written-most p z), c, eq-eqb (fault p).number 0 g) refl
+writing-done p z bytes count g c e = rw (e ∙ sets_front 0 largest (written p) (written-most p z), c, eq-eqb (fault p).number 0 g) refl
 
-pub writing-not : (p : Profile) → ((fault p).number ≡ 0 → ⊥)
-    → record { number = (fault p).number; place = (fault p).place; bytes = replicate largest 0; count = 0 } ≡ writing p
+pub writing-not : (p : Profile) {a : Answer} → a ≡ fault p → (a.number ≡ 0 → ⊥)
+    → record { number = a.number; place = a.place; bytes = replicate largest 0; count = 0 } ≡ writing p
 unfolding faultless
-writing-not p ne = rw (ne_eqb (fault p).number 0 ne) refl
+writing-not p e ne = rw (e, ne_eqb (fault p).number 0 (subst (λ (b : Answer). b.number ≡ 0 → ⊥) e ne)) refl

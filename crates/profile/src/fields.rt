@@ -1,11 +1,12 @@
 // The table of fields, by number from 0: field i has the tag i + 1. A field more is an arm more in each of the functions.
 ghost use Rattle.std.specs.Prelude.{◌≡◌, ◌+◌, ◌^◌, ◌<◌, ◌≤◌, length};
 ghost use Rattle.std.proofs.lemmas.List.Edits.{sets};
+ghost use Rattle.rules.specs.Answers.{answer_of};
 ghost use Rattle.rules.specs.Profile.{fault_of};
 ghost use Rattle.profile.specs.Fields.{field, many};
 
 use super::{faults, numbers};
-use rules::{Answer, Profile};
+use rules::{Profile, Refusal};
 
 pub(crate) const FIELDS: usize = 6;
 
@@ -25,23 +26,26 @@ pub(crate) fn due(i: usize, p: Profile) -> usize
 }
 
 // What a field finds at fault, where its header begins at a byte.
-pub(crate) fn fault(i: usize, at: usize, p: Profile) -> Answer
+pub(crate) fn fault(i: usize, at: usize, p: Profile) -> Result<(), Refusal>
     requires { (i < many) × (at < 2 ^ 63) }
-    ensures { result ≡ fault_of (field i) at p }
+    ensures { answer_of result ≡ fault_of (field i) at p }
 {
+    let at = at + 3;
     match i {
         0 => {
             let masks = p.masks;
-            faults::several(40, at + 3, ranges::masks_passing(masks), 8)
+            let n = ranges::masks_passing(masks);
+            faults::unless(n == 8, Refusal::Mask(at + 4 * n))
         }
-        1 => faults::single(ranges::level_good(p.level), 41, at + 3),
-        2 => faults::mode_fault(at + 3, p.mode, p.level),
-        3 => faults::single(ranges::k_good(p.k), 43, at + 3),
+        1 => faults::unless(ranges::level_good(p.level), Refusal::Level(at)),
+        2 => faults::mode_fault(at, p.mode, p.level),
+        3 => faults::unless(ranges::k_good(p.k), Refusal::K(at)),
         4 => {
             let seeds = p.seeds;
-            faults::several(44, at + 3, ranges::seeds_passing(p.mode, seeds), 48)
+            let n = ranges::seeds_passing(p.mode, seeds);
+            faults::unless(n == 48, Refusal::Seed(at + 4 * n))
         }
-        _ => faults::single(ranges::floor_good(p.level, p.floor), 45, at + 3),
+        _ => faults::unless(ranges::floor_good(p.level, p.floor), Refusal::Floor(at)),
     }
 }
 

@@ -1,7 +1,11 @@
 // The header of a field, judged at a position before its value is read, and stored; and what stands after the last field.
 ghost use Rattle.std.specs.Prelude.{◌≡◌, [], ◌∷◌, ◌+◌, ◌*◌, ◌/◌, ◌%◌, ◌<◌, ◌≤◌, drop, length};
 ghost use Rattle.std.proofs.lemmas.List.Edits.{sets};
+ghost use Rattle.rules.specs.Answers.{answer_of};
+ghost use Rattle.rules.specs.Profile.{only};
 ghost use Rattle.profile.specs.Fields.{heading, ending as endingOf};
+
+use rules::Refusal;
 
 // A length of two bytes.
 fn pair(b0: u8, b1: u8) -> usize
@@ -10,36 +14,39 @@ fn pair(b0: u8, b1: u8) -> usize
     b0 as usize * 256 + b1 as usize
 }
 
-// What stands at a position: 0 where it is a whole field with this tag and this length, else the number of the refusal: nothing left 5, header
-// cut 1, tag 2, length 3, value cut 1.
-pub(crate) fn judge(s: &[u8], at: usize, tag: u8, due: usize) -> u32
-    ensures { result ≡ heading tag due (drop at s.now) }
+// Whether a whole field with this tag and this length stands at a position; else the refusal: nothing left, header cut, tag, length, value cut.
+pub(crate) fn judge(s: &[u8], at: usize, tag: u8, due: usize) -> Result<(), Refusal>
+    ensures { answer_of result ≡ only (heading tag due (drop at s.now)) }
 {
     if s.len() <= at {
-        return 5;
+        return Err(Refusal::EndsBetweenFields);
     }
     let left = s.len() - at;
     let first = s[at];
     if left < 3 {
-        return 1;
+        return Err(Refusal::EndsInField);
     }
     if first != tag {
-        return 2;
+        return Err(Refusal::WrongTag);
     }
     if pair(s[at + 1], s[at + 2]) != due {
-        return 3;
+        return Err(Refusal::WrongLength);
     }
-    if left - 3 < due { 1 } else { 0 }
+    if left - 3 < due {
+        return Err(Refusal::EndsInField);
+    }
+    Ok(())
 }
 
-// What stands after the last field: 0 where it is nothing, else the number of the refusal: fewer than three bytes 1, else 2.
-pub(crate) fn ending(s: &[u8], at: usize) -> u32
-    ensures { result ≡ endingOf (drop at s.now) }
+// Whether nothing stands after the last field; else the refusal of what does: fewer than three bytes, or a header.
+pub(crate) fn ending(s: &[u8], at: usize) -> Result<(), Refusal>
+    ensures { answer_of result ≡ only (endingOf (drop at s.now)) }
 {
-    if s.len() <= at {
-        return 0;
+    match s.len().saturating_sub(at) {
+        0 => Ok(()),
+        1 | 2 => Err(Refusal::EndsInField),
+        _ => Err(Refusal::WrongTag),
     }
-    if s.len() - at < 3 { 1 } else { 2 }
 }
 
 // A field's tag and length, stored from a position on.

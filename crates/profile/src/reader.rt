@@ -2,10 +2,10 @@
 // and the number.
 ghost use Rattle.std.specs.Prelude.{◌≡◌, ◌<◌};
 ghost use Rattle.profile.specs.Fields.{many};
-ghost use Rattle.profile.specs.Reader.{taken};
+ghost use Rattle.profile.specs.Reader.{taken, step_of};
 
 use super::{fields, header};
-use rules::{Answer, Profile};
+use rules::{Profile, Refusal};
 
 // A lent profile, and a position in it.
 #[derive(Clone, Copy)]
@@ -14,43 +14,24 @@ pub(crate) struct Reader<'a> {
     pub(crate) at: usize,
 }
 
-// What taking a field answers: at 0 the position after the field and the profile with its value, else the refusal and both as they were.
+// What taking a field gives: the position after the field, and the profile with its value.
 #[derive(Clone, Copy)]
-pub(crate) struct Step {
-    pub(crate) answer: Answer,
+pub(crate) struct Taken {
     pub(crate) at: usize,
     pub(crate) profile: Profile,
 }
 
 // Takes field i at a position of a slice: its header, its value, its range.
-pub(crate) fn take(s: &[u8], at: usize, i: usize, p: Profile) -> Step
+pub(crate) fn take(s: &[u8], at: usize, i: usize, p: Profile) -> Result<Taken, Refusal>
     requires { i < many }
-    ensures { result ≡ taken i p s.now at }
+    ensures { step_of at p result ≡ taken i p s.now at }
 {
     let due = fields::due(i, p);
-    let n = header::judge(s, at, (i + 1) as u8, due);
-    if n != 0 {
-        return Step {
-            answer: super::only(n),
-            at,
-            profile: p,
-        };
-    }
+    header::judge(s, at, (i + 1) as u8, due)?;
     let next = at + 3 + due;
     let profile = fields::with_value(i, p, &s[at + 3..next]);
-    let answer = fields::fault(i, at, profile);
-    if answer.number != 0 {
-        return Step {
-            answer,
-            at,
-            profile: p,
-        };
-    }
-    Step {
-        answer,
-        at: next,
-        profile,
-    }
+    fields::fault(i, at, profile)?;
+    Ok(Taken { at: next, profile })
 }
 
 // At the start of a profile.
@@ -68,17 +49,17 @@ pub(crate) fn moved<'a>(r: Reader<'a>, at: usize) -> Reader<'a>
 }
 
 // Takes field i where the reader stands.
-pub(crate) fn next<'a>(r: Reader<'a>, i: usize, p: Profile) -> Step
+pub(crate) fn next<'a>(r: Reader<'a>, i: usize, p: Profile) -> Result<Taken, Refusal>
     requires { i < many }
-    ensures { result ≡ taken i p r.entry.src.now r.entry.at }
+    ensures { step_of r.entry.at p result ≡ taken i p r.entry.src.now r.entry.at }
 {
     take(r.src, r.at, i, p)
 }
 
 // Takes field i at a position, by a reader of its own: whoever calls it holds no reader.
-pub(crate) fn field_at(s: &[u8], at: usize, i: usize, p: Profile) -> Step
+pub(crate) fn field_at(s: &[u8], at: usize, i: usize, p: Profile) -> Result<Taken, Refusal>
     requires { i < many }
-    ensures { result ≡ taken i p s.now at }
+    ensures { step_of at p result ≡ taken i p s.now at }
 {
     next(moved(new(s), at), i, p)
 }

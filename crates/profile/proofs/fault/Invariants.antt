@@ -1,11 +1,6 @@
 -- At the loop's head the fields from i on decide, the first of them at a byte; after them twins.
-use Prim.Native.Nat.{◌-◌}
-use Rattle.profile.specs.Fields.{many}
 use Rattle.profile.proofs.Walk.{Finding}
 use Rattle.profile.proofs.fault.Given as goal
 
 abbrev pub invariant-loop-i : goal.invariant-loop-i
 invariant-loop-i l = Finding l.p l.at l.i
-
-abbrev pub decreases-loop-i : goal.decreases-loop-i
-decreases-loop-i l = many - l.i

@@ -1,11 +1,6 @@
 -- At the loop's head, what is left to store gives all the bytes.
-use Prim.Native.Nat.{◌-◌}
-use Rattle.profile.specs.Fields.{many}
 use Rattle.profile.proofs.Written.{Storing}
 use Rattle.profile.proofs.put_all.Given as goal
 
 abbrev pub invariant-loop-i : goal.invariant-loop-i
 invariant-loop-i l = Storing l.initial.s l.p l.s l.at l.i
-
-abbrev pub decreases-loop-i : goal.decreases-loop-i
-decreases-loop-i l = many - l.i

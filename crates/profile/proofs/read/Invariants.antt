@@ -1,11 +1,6 @@
 -- At the loop's head the walk from the field on, over what is left, answers.
-use Prim.Native.Nat.{◌-◌}
-use Rattle.profile.specs.Fields.{many}
 use Rattle.profile.proofs.Walk.{Walking}
 use Rattle.profile.proofs.read.Given as goal
 
 abbrev pub invariant-loop-i : goal.invariant-loop-i
 invariant-loop-i l = Walking l.bytes l.p l.at l.i
-
-abbrev pub decreases-loop-i : goal.decreases-loop-i
-decreases-loop-i l = many - l.i

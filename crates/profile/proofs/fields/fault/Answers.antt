@@ -19,15 +19,15 @@ unfolding field
 returns-in-0 c =
     let a = c.args in
     let long : length a.p.masks ≡ 8 = search rules in
-    c.several.ensures
-    ∙ masks-fault 40 (a.at + 3) c.masks_passing.result a.p.masks long c.masks_passing.ensures.0
+    c.unless.ensures
+    ∙ masks-fault 40 (a.at + 3) c.masks_passing-n.result a.p.masks long c.masks_passing-n.ensures.0
     ∙ rw c.in-0.is (alone (field 0) a.at a.p tt refl)
 
 pub returns-in-1 : goal.returns-in-1
 unfolding field
 returns-in-1 c =
     let a = c.args in
-    c.single.ensures ∙ rw (c.level_good.ensures, c.in-1.is) (alone (field 1) a.at a.p tt refl)
+    c.unless-in-1.ensures ∙ rw (c.level_good.ensures, c.in-1.is) (alone (field 1) a.at a.p tt refl)
 
 pub returns-in-2 : goal.returns-in-2
 unfolding field
@@ -37,19 +37,19 @@ pub returns-in-3 : goal.returns-in-3
 unfolding field
 returns-in-3 c =
     let a = c.args in
-    c.single-in-3.ensures ∙ rw (c.k_good.ensures, c.in-3.is) (alone (field 3) a.at a.p tt refl)
+    c.unless-in-3.ensures ∙ rw (c.k_good.ensures, c.in-3.is) (alone (field 3) a.at a.p tt refl)
 
 pub returns-in-4 : goal.returns-in-4
 unfolding field
 returns-in-4 c =
     let a = c.args in
     let long : length a.p.seeds ≡ 48 = search rules in
-    c.several-in-4.ensures
-    ∙ seeds-fault 44 (a.at + 3) c.seeds_passing.result a.p.seeds a.p.mode long c.seeds_passing.ensures.0
+    c.unless-in-4.ensures
+    ∙ seeds-fault 44 (a.at + 3) c.seeds_passing-n.result a.p.seeds a.p.mode long c.seeds_passing-n.ensures.0
     ∙ rw c.in-4.is (alone (field 4) a.at a.p tt refl)
 
 pub returns-in_default : goal.returns-in_default
 unfolding field
 returns-in_default c =
     let a = c.args in
-    c.single-in_default.ensures ∙ rw (c.floor_good.ensures, last (goal.at.returns-in_default c).In_default) (alone (field 5) a.at a.p tt refl)
+    c.unless-in_default.ensures ∙ rw (c.floor_good.ensures, last (goal.at.returns-in_default c).In_default) (alone (field 5) a.at a.p tt refl)
