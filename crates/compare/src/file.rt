@@ -1,162 +1,134 @@
 // One of the two files of cells: opened, read to its end for its length, then read again symbol by symbol. What can't be done is said here.
-ghost use Rattle.std.specs.Prelude.{◌*◌, ◌<◌, ◌≤◌, length};
+ghost use Rattle.std.specs.Prelude.{◌<◌, ◌≤◌, length, IfOk};
 
+use manners::words::Foreign;
+use manners::{Program, Said, named, read_full};
 use std::fs::File;
 use std::io;
-use std::io::{Error, Read, Seek, SeekFrom};
+use std::io::{Read, Seek, SeekFrom};
 
-// Bytes of one symbol's first parts, or second parts.
+// Cells of one symbol, and bytes of its first parts, or second parts.
+pub const CELLS: usize = 4096;
+
 const PARTS: usize = 16_384;
 
 // A file of so many bytes is too long: its symbols have numbers of more than 32 bits.
 const MOST: u64 = 140_737_488_355_328;
 
-// How many bytes a file has, where it could be read to its end.
+// The patterns of one symbol's parts.
 #[derive(Drop)]
-pub struct Length {
-    pub is_known: bool,
-    pub bytes: u64,
+pub struct Symbol {
+    pub firsts: [u32; CELLS],
+    pub seconds: [u32; CELLS],
 }
 
-// Says that a file can't be read, by the system's error.
-fn cannot_read(rt: HostRuntime, path: &[u8], e: &Error) {
-    manners::cannot_file(rt, b"compare", b"read", path, e);
-}
-
-// Says that a file can't be read, and why.
-fn cannot_read_since(rt: HostRuntime, path: &[u8], why: &[u8]) {
-    manners::cannot_file_since(rt, b"compare", b"read", path, why);
-}
-
-// Says that a file isn't what it was when its length was taken.
-fn changed(rt: HostRuntime, path: &[u8]) {
-    cannot_read_since(rt, path, b"it changed meanwhile");
-}
-
-// Says that a file is too long.
-fn too_long(rt: HostRuntime, path: &[u8]) {
-    cannot_read_since(rt, path, b"it is too long");
-}
-
-// Goes to a file's start, and answers whether it has one: a pipe has not. Says so.
-pub fn rewind(rt: HostRuntime, file: &mut File, path: &[u8]) -> bool {
-    let is_at_start = file.seek(SeekFrom::Start(0)).is_ok();
-    if !is_at_start {
-        cannot_read_since(
-            rt,
-            path,
-            b"it can't be read twice, put it into a file first",
-        );
+impl Symbol {
+    // All zero, until it is read.
+    pub fn new() -> Symbol {
+        Symbol {
+            firsts: [0; CELLS],
+            seconds: [0; CELLS],
+        }
     }
-    is_at_start
+}
+
+// A file that can be read twice, and the path that it was named by.
+#[derive(Drop)]
+pub struct CellFile<'a> {
+    program: Program<'a>,
+    path: &'a [u8],
+    file: File,
+}
+
+impl<'a> CellFile<'a> {
+    // Opens it.
+    pub fn open(program: Program<'a>, path: &'a [u8]) -> Result<CellFile<'a>, Said> {
+        let opened = open_read(program.rt, path);
+        let file = program.tried(format_args!("read {}", Foreign(path)), opened)?;
+        let mut cells = CellFile {
+            program,
+            path,
+            file,
+        };
+        cells.rewind()?;
+        Ok(cells)
+    }
+}
+
+impl CellFile<'_> {
+    // Says why it can't be read.
+    fn cannot_since(&self, why: &str) -> Said {
+        self.program
+            .cannot_since(format_args!("read {}", Foreign(self.path)), why)
+    }
+
+    // Says that it isn't what it was when its length was taken.
+    fn changed(&self) -> Said {
+        self.cannot_since("it changed meanwhile")
+    }
+
+    // Goes to its start: a pipe has none.
+    pub fn rewind(&mut self) -> Result<(), Said> {
+        match self.file.seek(SeekFrom::Start(0)) {
+            Ok(_) => Ok(()),
+            Err(_) => Err(self.cannot_since("it can't be read twice, put it into a file first")),
+        }
+    }
+
+    // Reads some bytes.
+    fn read(&mut self, room: &mut [u8]) -> Result<usize, Said>
+        ensures { IfOk result (λ n. n ≤ length room.new) }
+    {
+        let came = self.file.read(room);
+        self.program
+            .tried(format_args!("read {}", Foreign(self.path)), came)
+    }
+
+    // Reads it to its end, and answers how many bytes it has.
+    pub fn length(&mut self) -> Result<u64, Said>
+        ensures { IfOk result (λ n. n < 140737488355328) }
+    {
+        let mut room = [0u8; 65536];
+        let mut bytes: u64 = 0;
+        while bytes < MOST {
+            match self.read(&mut room)? {
+                0 => return Ok(bytes),
+                n => bytes += n as u64,
+            }
+        }
+        Err(self.cannot_since("it is too long"))
+    }
+
+    // That it has come to its end.
+    pub fn ended(&mut self) -> Result<(), Said> {
+        match self.read(&mut [0u8; 1])? {
+            0 => Ok(()),
+            _ => Err(self.changed()),
+        }
+    }
+
+    // Reads one symbol's first or second parts, four bytes each.
+    fn read_parts(&mut self, list: &mut [u32; CELLS]) -> Result<(), Said> {
+        let mut bytes = [0u8; PARTS];
+        if read_full(&mut self.file, &mut bytes) < PARTS {
+            self.ended()?;
+            return Err(self.changed());
+        }
+        let (fours, _) = bytes.as_chunks::<4>();
+        for (x, four) in list.iter_mut().zip(fours) {
+            *x = u32::from_be_bytes(*four);
+        }
+        Ok(())
+    }
+
+    // Reads one symbol.
+    pub fn read_symbol(&mut self, symbol: &mut Symbol) -> Result<(), Said> {
+        self.read_parts(&mut symbol.firsts)?;
+        self.read_parts(&mut symbol.seconds)
+    }
 }
 
 // Opens a file to read it.
 fn open_read(rt: HostRuntime, path: &[u8]) -> io::Result<File> {
-    let text = manners::named(path)?;
-    File::open(&rt, text)
-}
-
-// Goes to the start of a file that was opened, and answers it, or none where it said why it can't.
-fn rewound(rt: HostRuntime, mut file: File, path: &[u8]) -> Option<File> {
-    if rewind(rt, &mut file, path) {
-        Some(file)
-    } else {
-        None
-    }
-}
-
-// Opens a file that can be read twice, and answers it, or none where it said why it can't.
-pub fn open(rt: HostRuntime, path: &[u8]) -> Option<File> {
-    match open_read(rt, path) {
-        Ok(file) => rewound(rt, file, path),
-        Err(e) => {
-            cannot_read(rt, path, &e);
-            None
-        }
-    }
-}
-
-// Reads a file to its end, and answers how many bytes it has, or says why it can't.
-pub fn length_of(rt: HostRuntime, file: &mut File, path: &[u8]) -> Length
-    ensures { result.bytes < 140737488355328 }
-{
-    let mut room = [0u8; 65536];
-    let mut bytes: u64 = 0;
-    while bytes < MOST {
-        match file.read(&mut room) {
-            Ok(0) => {
-                return Length {
-                    is_known: true,
-                    bytes,
-                };
-            }
-            Ok(n) => bytes += n as u64,
-            Err(e) => {
-                cannot_read(rt, path, &e);
-                return Length {
-                    is_known: false,
-                    bytes: 0,
-                };
-            }
-        }
-    }
-    too_long(rt, path);
-    Length {
-        is_known: false,
-        bytes: 0,
-    }
-}
-
-// Whether a file has come to its end. Says so where it has not.
-pub fn has_ended(rt: HostRuntime, file: &mut File, path: &[u8]) -> bool {
-    let mut one = [0u8; 1];
-    match file.read(&mut one) {
-        Ok(0) => true,
-        Ok(_) => {
-            changed(rt, path);
-            false
-        }
-        Err(e) => {
-            cannot_read(rt, path, &e);
-            false
-        }
-    }
-}
-
-// The patterns that the bytes spell, four each.
-fn gather(bytes: &[u8], list: &mut [u32])
-    requires { 4 * length list.old ≤ length bytes.now }
-{
-    for i in 0..list.len() {
-        let at = 4 * i;
-        list[i] = manners::quad(bytes[at], bytes[at + 1], bytes[at + 2], bytes[at + 3]);
-    }
-}
-
-// Reads one symbol's first or second parts, and answers whether all of them came. Says why they did not.
-fn read_parts(rt: HostRuntime, file: &mut File, path: &[u8], list: &mut [u32]) -> bool
-    requires { length list.old ≤ 4096 }
-{
-    let mut bytes = [0u8; PARTS];
-    let is_whole = manners::read_full(file, &mut bytes) == PARTS;
-    if is_whole {
-        gather(&bytes, list);
-    } else if has_ended(rt, file, path) {
-        changed(rt, path);
-    }
-    is_whole
-}
-
-// Reads one symbol, and answers whether all of it came.
-pub fn read_symbol(
-    rt: HostRuntime,
-    file: &mut File,
-    path: &[u8],
-    firsts: &mut [u32],
-    seconds: &mut [u32],
-) -> bool
-    requires { (length firsts.old ≤ 4096) × (length seconds.old ≤ 4096) }
-{
-    read_parts(rt, file, path, firsts) && read_parts(rt, file, path, seconds)
+    File::open(&rt, named(path)?)
 }

@@ -1,62 +1,164 @@
-// The words for a number of a profile that is outside its range, in two halves with the number's value between them. A field goes by the number
-// that it is refused with: 40 mask, 41 level, 42 mode, 43 K, 44 seed, 45 floor.
-use super::put;
+// The words for a number of a profile that is outside its range.
+use rules::Refusal;
+use std::fmt;
 
-fn indexed(out: &mut [u8], at: usize, what: &[u8], index: usize) -> usize {
-    let at = put::bytes(out, at, what);
-    put::decimal(out, at, index as u64)
+// The fields of a profile whose numbers have a range.
+#[derive(Clone, Copy, Debug, PartialEq, Eq)]
+pub enum Field {
+    Mask,
+    Level,
+    Mode,
+    K,
+    Seed,
+    Floor,
 }
 
-// What the number at an index is called: only masks and seeds have several.
-fn name(out: &mut [u8], at: usize, number: u32, index: usize) -> usize {
-    match number {
-        40 => indexed(out, at, b"mask ", index),
-        41 => put::bytes(out, at, b"level"),
-        42 => put::bytes(out, at, b"mode"),
-        43 => put::bytes(out, at, b"K"),
-        45 => put::bytes(out, at, b"floor"),
-        _ => indexed(out, at, b"seed ", index),
+// What one of a field's numbers is called.
+impl fmt::Display for Field {
+    fn fmt<W: fmt::Write>(&self, f: &mut fmt::Formatter<W>) -> fmt::Result {
+        f.write_str(match self {
+            Field::Mask => "mask",
+            Field::Level => "level",
+            Field::Mode => "mode",
+            Field::K => "K",
+            Field::Seed => "seed",
+            Field::Floor => "floor",
+        })
     }
 }
 
-fn range(out: &mut [u8], at: usize, number: u32) -> usize {
-    match number {
-        41 => put::bytes(
-            out,
-            at,
-            b"0x00800000 to 0x7f7fffff (positive, finite and normal)",
-        ),
-        42 => put::bytes(out, at, b"0 to 4"),
-        43 => put::bytes(out, at, b"8, 12 and 14"),
-        45 => put::bytes(
-            out,
-            at,
-            b"0x00000000 to 0x7f7fffff (+0.0, or positive and finite)",
-        ),
-        _ => put::bytes(out, at, b"1 to 1048575"),
+// A refusal that names no field is handed back.
+impl TryFrom<Refusal> for Field {
+    type Error = Refusal;
+
+    fn try_from(refusal: Refusal) -> Result<Field, Refusal> {
+        match refusal {
+            Refusal::Mask(_) => Ok(Field::Mask),
+            Refusal::Level(_) => Ok(Field::Level),
+            Refusal::Mode(_) => Ok(Field::Mode),
+            Refusal::K(_) => Ok(Field::K),
+            Refusal::Seed(_) => Ok(Field::Seed),
+            Refusal::Floor(_) => Ok(Field::Floor),
+            _ => Err(refusal),
+        }
     }
 }
 
-// The words before the value.
-pub fn before(out: &mut [u8], at: usize, number: u32, index: usize) -> usize {
-    let at = name(out, at, number, index);
-    put::bytes(out, at, b" is ")
+impl Field {
+    // The range of its numbers.
+    pub fn range(self) -> &'static str {
+        match self {
+            Field::Mask | Field::Seed => "1 to 1048575",
+            Field::Level => "0x00800000 to 0x7f7fffff (positive, finite and normal)",
+            Field::Mode => "0 to 4",
+            Field::K => "8, 12 and 14",
+            Field::Floor => "0x00000000 to 0x7f7fffff (+0.0, or positive and finite)",
+        }
+    }
+
+    // The index of its number that begins at a place of a profile's bytes.
+    fn index_at(self, place: usize) -> usize {
+        match self {
+            Field::Mask => place.saturating_sub(MASKS_AT) / 4,
+            Field::Seed => place.saturating_sub(SEEDS_AT) / 4,
+            _ => 0,
+        }
+    }
+
+    // Its number that some of a profile's bytes begin with: an f32 by its pattern.
+    fn number_in(self, bytes: &[u8]) -> Option<u32> {
+        match self {
+            Field::Mode | Field::K => bytes.first().map(|b| u32::from(*b)),
+            _ => bytes.first_chunk().map(|four| u32::from_be_bytes(*four)),
+        }
+    }
+
+    // What is allowed in place of a number that was refused, in a profile with this level.
+    fn allowed(self, number: u32, level: u32) -> Allowed {
+        match self {
+            Field::Level if is_level(number) => Allowed::Sendable,
+            Field::Floor => Allowed::AtLevel(level),
+            _ => Allowed::InField(self),
+        }
+    }
 }
 
-// The words after the value.
-pub fn after(out: &mut [u8], at: usize, number: u32) -> usize {
-    let at = put::bytes(out, at, b", ");
-    let at = range(out, at, number);
-    put::bytes(out, at, b" are allowed")
+// What a number may be, in words.
+#[derive(Clone, Copy, Debug, PartialEq, Eq)]
+pub enum Allowed {
+    // All of a field's range.
+    InField(Field),
+    // Of a level that is in its range, and too large for 16QAM.
+    Sendable,
+    // Of a floor, where the level is known, by its pattern.
+    AtLevel(u32),
 }
 
-// The words after the value of a level that is in its range, and too large for 16QAM.
-pub fn after_in_mode(out: &mut [u8], at: usize) -> usize {
-    put::bytes(
-        out,
-        at,
-        b", 0x00800000 to 0x7eaaaaaa (so that 3 x level is finite) are allowed in modes 2 to 4",
-    )
+impl fmt::Display for Allowed {
+    fn fmt<W: fmt::Write>(&self, f: &mut fmt::Formatter<W>) -> fmt::Result {
+        match self {
+            Allowed::InField(field) => write!(f, "{} are allowed", field.range()),
+            Allowed::Sendable => f.write_str(
+                "0x00800000 to 0x7eaaaaaa (so that 3 x level is finite) are allowed in modes 2 to 4",
+            ),
+            Allowed::AtLevel(level) => write!(
+                f,
+                "0x00000000 to {:#010x} (+0.0, or positive and at most half the level) are allowed",
+                half(*level)
+            ),
+        }
+    }
+}
+
+// A number outside its range, by its index in its field; its value as the caller shows it.
+#[derive(Clone, Copy)]
+pub struct Outside<V> {
+    pub field: Field,
+    pub index: usize,
+    pub value: V,
+    pub allowed: Allowed,
+}
+
+// Only masks and seeds have several numbers.
+impl<V: fmt::Display> fmt::Display for Outside<V> {
+    fn fmt<W: fmt::Write>(&self, f: &mut fmt::Formatter<W>) -> fmt::Result {
+        let field = self.field;
+        match field {
+            Field::Mask | Field::Seed => write!(f, "{field} {}", self.index)?,
+            _ => write!(f, "{field}")?,
+        }
+        write!(f, " is {}, {}", self.value, self.allowed)
+    }
+}
+
+// A field's number as a message shows it: an f32 by its pattern.
+#[derive(Clone, Copy)]
+pub(crate) struct Shown {
+    field: Field,
+    number: u32,
+}
+
+impl fmt::Display for Shown {
+    fn fmt<W: fmt::Write>(&self, f: &mut fmt::Formatter<W>) -> fmt::Result {
+        match self.field {
+            Field::Level | Field::Floor => write!(f, "{:#010x}", self.number),
+            _ => write!(f, "{}", self.number),
+        }
+    }
+}
+
+impl Outside<Shown> {
+    // Of the field's number that begins at a place of a profile's bytes; none where they end before the number does.
+    pub(crate) fn in_bytes(field: Field, place: usize, bytes: &[u8]) -> Option<Outside<Shown>> {
+        let number = field.number_in(bytes.get(place..)?)?;
+        let [level] = numbers_at::<1>(bytes, LEVEL_AT);
+        Some(Outside {
+            field,
+            index: field.index_at(place),
+            value: Shown { field, number },
+            allowed: field.allowed(number, level),
+        })
+    }
 }
 
 // The largest floor under a level in its range, both by their patterns: twice the floor is at most the level. Half a level has an exponent one less;
@@ -69,89 +171,24 @@ pub fn half(level: u32) -> u32 {
     }
 }
 
-// The words after the value of a floor, where the level is known.
-pub fn after_at_level(out: &mut [u8], at: usize, level: u32) -> usize {
-    let at = put::bytes(out, at, b", 0x00000000 to ");
-    let at = put::pattern(out, at, half(level));
-    put::bytes(
-        out,
-        at,
-        b" (+0.0, or positive and at most half the level) are allowed",
-    )
-}
-
 // Whether a level is in its range, by its pattern: what refuses it is then the mode.
 fn is_level(x: u32) -> bool {
     0x0080_0000 <= x && x <= 0x7F7F_FFFF
 }
 
-// The words after the value of a field of a profile with this level.
-pub(crate) fn after_value(out: &mut [u8], at: usize, number: u32, x: u32, level: u32) -> usize {
-    if number == 41 && is_level(x) {
-        after_in_mode(out, at)
-    } else if number == 45 {
-        after_at_level(out, at, level)
-    } else {
-        after(out, at, number)
-    }
-}
+// The places of fields in a profile's bytes.
+pub(crate) const MASKS_AT: usize = 3;
 
-// How many bytes of a profile each number of a field has; none where the number names no field.
-pub(crate) fn size(number: u32) -> usize {
-    match number {
-        40 | 41 | 44 | 45 => 4,
-        42 | 43 => 1,
-        _ => 0,
-    }
-}
+const LEVEL_AT: usize = 38;
 
-// The index of the mask, or of the seed, that begins at a place.
-pub(crate) fn index(number: u32, place: usize) -> usize {
-    let first = if number == 40 { 3 } else { 53 };
-    if place < first {
-        0
-    } else {
-        (place - first) / 4
-    }
-}
+pub(crate) const SEEDS_AT: usize = 53;
 
-// The number that a field's bytes spell.
-pub(crate) fn spelt(bytes: &[u8]) -> u32 {
-    match bytes.len() {
-        1 => super::quad(0, 0, 0, bytes[0]),
-        4 => super::quad(bytes[0], bytes[1], bytes[2], bytes[3]),
-        _ => 0,
+// The numbers of four bytes each from a place of a profile on; zeros after the bytes' end.
+pub(crate) fn numbers_at<const N: usize>(bytes: &[u8], place: usize) -> [u32; N] {
+    let mut list = [0; N];
+    let (fours, _) = bytes.get(place..).unwrap_or(&[]).as_chunks::<4>();
+    for (x, four) in list.iter_mut().zip(fours) {
+        *x = u32::from_be_bytes(*four);
     }
-}
-
-// The number of the first four bytes; zero where there are fewer.
-fn first_four(bytes: &[u8]) -> u32 {
-    if bytes.len() < 4 {
-        0
-    } else {
-        spelt(&bytes[0..4])
-    }
-}
-
-// The number of four bytes that begins at a place; zero where the bytes end before it does.
-pub(crate) fn four_at(bytes: &[u8], place: usize) -> u32 {
-    if bytes.len() < place {
-        0
-    } else {
-        first_four(&bytes[place..])
-    }
-}
-
-// The level's pattern in a profile's bytes.
-pub(crate) fn level(bytes: &[u8]) -> u32 {
-    four_at(bytes, 38)
-}
-
-// The value of a profile's field: an f32 by its pattern.
-pub(crate) fn value(out: &mut [u8], at: usize, number: u32, x: u32) -> usize {
-    if number == 41 || number == 45 {
-        put::pattern(out, at, x)
-    } else {
-        put::decimal(out, at, x as u64)
-    }
+    list
 }
