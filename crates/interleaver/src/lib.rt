@@ -24,9 +24,10 @@ pub struct Kept {
 
 // Five bits reversed.
 fn reversed(i: u16) -> u16
+    requires { i < 32 }
     ensures { result ≡ keeping.reversed 5 i }
 {
-    i % 2 * 16 + i / 2 % 2 * 8 + i / 4 % 2 * 4 + i / 8 % 2 * 2 + i / 16 % 2
+    i.reverse_bits() >> 11
 }
 
 // The address of a counter.
@@ -35,7 +36,7 @@ fn address(m: u16) -> u16
     ensures { result ≡ rule.address 5 (row table_d) m }
 {
     let i0 = m % 32;
-    let at = i0 as usize;
+    let at = usize::from(i0);
     32 * reversed(i0) + D[at] * (m / 32 + 1) % 32
 }
 
@@ -60,9 +61,9 @@ pub fn addresses() -> [u16; 994]
 {
     let mut out = [0u16; 994];
     let mut from: u16 = 0;
-    for i in 0..994 {
+    for address in out.iter_mut() {
         let kept = next_kept(from);
-        out[i] = kept.address;
+        *address = kept.address;
         from = kept.counter + 1;
     }
     out

@@ -6,11 +6,12 @@ use native.Mathlib.Nat.{pow-succ', div-div-eq-div-mul, div-add-mod', div-one, ad
 use native.Mathlib.Decide.{dec_lt}
 use native.Mathlib.Omega.{arith}
 use lib.Bits.{bit_xor, block_half, block_odd, xor_add_and, xor_lt}
-use lib.ListN.{set}
+use lib.ListN.{length, set, replicate, length-replicate, get_or-replicate}
 use Rattle.rules.specs.Bits.{row}
 use Rattle.rules.specs.Slots.{scrambler_step, scrambler_state, both, scrambling}
 use Rattle.laws.specs.Holds.{Holds}
-use Rattle.laws.specs.Filled.{up_to, up_to-below, holds-next}
+use Rattle.laws.specs.Filled.{up_to, up_to-below, up_to-from, holds-next}
+use Rattle.laws.specs.Parts.{put_part, put-long, put_in, put-after}
 
 -- bit j of a number, lowest bit first
 unfoldable bit : ℕ → ℕ → ℕ
@@ -132,6 +133,34 @@ recurrence-4 seed mask = doubled (scrambling seed mask) 40 6 (doubled (scramblin
 
 xor-bits : (a b : ℕ) → a < 2 → b < 2 → bit_xor a b ≡ (a + b) % 2
 xor-bits a b ha hb = omega (arith, xor_add_and a b, xor_lt 1 a b ha hb)
+
+-- the first n of a list of zeros are written
+pub holds-front : (o : ℕ → ℕ) (n size : ℕ) (y : List ℕ) → n ≤ size → Holds 0 n o y → Holds 0 size (up_to n o (λ k. 0)) (put_part 0 n (replicate size 0) y)
+holds-front o n size y le h = record { long = put-long 0 n zeros (omega arith) to y long-y ∙ long; each = each }
+  where
+    zeros : List ℕ
+    zeros = replicate size 0
+
+    long : length zeros ≡ size
+    long = length-replicate {A = ℕ} size 0
+
+    long-y : length y ≡ n - 0
+    long-y = omega (arith, h.long)
+
+    to : n ≤ length zeros
+    to = omega (arith, long)
+
+    each : (k : ℕ) → k < size → row (put_part 0 n zeros y) k ≡ up_to n o (λ k. 0) k
+    each k lt = go (dec_lt k n)
+      where
+        go : Dec (k < n) → row (put_part 0 n zeros y) k ≡ up_to n o (λ k. 0) k
+        go (yes before) =
+            ap (row (put_part 0 n zeros y)) (omega arith) ∙ put_in 0 n zeros (omega arith) to y long-y k 0 (omega arith)
+            ∙ h.each k before ∙ sym (up_to-below o (λ k. 0) n k before)
+        go (no after) =
+            let place : n + (k - n) ≡ k = omega arith in
+            ap (row (put_part 0 n zeros y)) (sym place) ∙ put-after 0 n zeros (omega arith) to y long-y (k - n) 0
+            ∙ get_or-replicate size (n + (k - n)) 0 0 (omega arith) ∙ sym (up_to-from o (λ k. 0) n k (omega arith))
 
 -- a turn that stores element i, the sum of two before it
 pub holds-sum : (o g : ℕ → ℕ) (n k : ℕ) → ((i : ℕ) → o i < 2) → Follows o n k → k < n → {size : ℕ} {l : List ℕ} (i : ℕ) → n ≤ i → i < size

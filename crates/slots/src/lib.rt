@@ -1,7 +1,7 @@
 // Scrambling of a slot's bits. A bit is a byte that is 0 or 1; 2 is a doubtful one.
 #![tactic(auto)]
 
-ghost use Rattle.std.specs.Prelude.{◌≡◌, ℕ, ◌<◌, ◌≤◌, ◌%◌, ◌^◌, min, length};
+ghost use Rattle.std.specs.Prelude.{◌≡◌, ℕ, ◌<◌, ◌≤◌, ◌%◌, ◌^◌, length};
 ghost use Rattle.rules.specs.Bits.{row};
 ghost use Rattle.rules.specs.Slots.{scrambler_step, both, scrambling};
 ghost use Rattle.rules.specs.Block.{unscrambled};
@@ -21,29 +21,31 @@ fn output(state: u32, mask: u32) -> u8
     requires { state < 2 ^ 20 }
     ensures { result ≡ both 20 state mask % 2 }
 {
-    (u32::count_ones(state & mask) % 2) as u8
+    ((state & mask).count_ones() % 2) as u8
 }
 
-// The first 20 of the scrambler's outputs, by the register; then zeros.
-fn first_outputs(seed: u32, mask: u32) -> [u8; 2000]
+// The first 20 of the scrambler's outputs, by the register.
+fn first_outputs(seed: u32, mask: u32) -> [u8; 20]
     requires { seed < 2 ^ 20 }
-    ensures { Holds 0 2000 (up_to 20 (scrambling seed mask) (λ k. 0)) result }
+    ensures { Holds 0 20 (scrambling seed mask) result }
 {
-    let mut out = [0u8; 2000];
+    let mut out = [0u8; 20];
     let mut state = seed;
-    for i in 0..20 {
-        out[i] = output(state, mask);
+    for bit in out.iter_mut() {
+        *bit = output(state, mask);
         state = stepped(state);
     }
     out
 }
 
 // The first 80. By h = D^20 + D^17 + 1 each is the sum of those 20 and 17 before it, whatever the mask.
-fn early_outputs(seed: u32, mask: u32) -> [u8; 2000]
+fn early_outputs(seed: u32, mask: u32) -> [u8; 80]
     requires { seed < 2 ^ 20 }
-    ensures { Holds 0 2000 (up_to 80 (scrambling seed mask) (λ k. 0)) result }
+    ensures { Holds 0 80 (scrambling seed mask) result }
 {
-    let mut out = first_outputs(seed, mask);
+    let mut out = [0u8; 80];
+    out[..20].copy_from_slice(&first_outputs(seed, mask));
+    // Over the index: an iterator that writes an element does not reach those before it.
     for i in 20..80 {
         out[i] = out[i - 20] ^ out[i - 17];
     }
@@ -55,7 +57,9 @@ fn outputs(seed: u32, mask: u32, n: usize) -> [u8; 2000]
     requires { (seed < 2 ^ 20) × (n ≤ 2000) }
     ensures { (i : ℕ) → i < n → row result i ≡ scrambling seed mask i }
 {
-    let mut out = early_outputs(seed, mask);
+    let mut out = [0u8; 2000];
+    out[..80].copy_from_slice(&early_outputs(seed, mask));
+    // Over the index, as above.
     for i in 80..n {
         out[i] = out[i - 80] ^ out[i - 68];
     }
@@ -67,20 +71,7 @@ fn added(bit: u8, s: u8) -> u8
     requires { s < 2 }
     ensures { result ≡ unscrambled bit s }
 {
-    if bit == 2 {
-        return 2;
-    }
-    (bit % 2 + s) % 2
-}
-
-// How many of n bits are a slot's: 2000 at the most.
-fn slot_part(n: usize) -> usize
-    ensures { result ≡ min n 2000 }
-{
-    if n < 2000 {
-        return n;
-    }
-    2000
+    if bit == 2 { 2 } else { (bit % 2 + s) % 2 }
 }
 
 // Adds the scrambler's output to a slot's bits, in place; a doubtful one stays doubtful, and what lies behind the 2000 bits of the largest slot stays as
@@ -89,9 +80,9 @@ pub fn scramble(seed: u32, mask: u32, bits: &mut [u8])
     ensures { Holds 0 (length bits.old)
         (up_to 2000 (λ i. unscrambled (row bits.old i) (scrambling seed mask i)) (row bits.old)) bits.new }
 {
-    let n = slot_part(bits.len());
+    let n = bits.len().min(2000);
     let out = outputs(seed % 1048576, mask, n);
-    for i in 0..n {
-        bits[i] = added(bits[i], out[i]);
+    for (i, bit) in bits[..n].iter_mut().enumerate() {
+        *bit = added(*bit, out[i]);
     }
 }

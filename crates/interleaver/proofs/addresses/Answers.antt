@@ -32,19 +32,19 @@ filled_more {out} {from} {i} a m f lt em ea =
     at : m ≡ counter (address 5 (row table_d)) 1024 994 i
     at = em ∙ f.next
 
-pub loop-i-init : goal.loop-i-init
+pub loop-address-init : goal.loop-address-init
 unfolding counter
-loop-i-init c = record { most = omega arith; next = refl; long = refl; each = λ k lt. absurd (omega arith) }
+loop-address-init c = record { most = omega arith; next = refl; long = refl; each = λ k lt. absurd (omega arith) }
 
 pub next_kept-kept-requires : goal.next_kept-kept-requires
-next_kept-kept-requires c = omega (arith, counter5-lt c.loop-i.i (omega arith))
+next_kept-kept-requires c = omega (arith, counter5-lt c.loop-address.address-index (omega arith))
 
 pub overflow_add-from : goal.overflow_add-from
-overflow_add-from c = omega (arith, counter5-lt c.loop-i.i (omega arith))
+overflow_add-from c = omega (arith, counter5-lt c.loop-address.address-index (omega arith))
 
-pub loop-i-preserved : goal.loop-i-preserved
-loop-i-preserved c =
-    filled_more _ _ c.loop-i.invariant (omega arith) c.next_kept-kept.ensures.0 c.next_kept-kept.ensures.1
+pub loop-address-preserved : goal.loop-address-preserved
+loop-address-preserved c =
+    filled_more _ _ c.loop-address.invariant (omega arith) c.next_kept-kept.ensures.0 c.next_kept-kept.ensures.1
 
 pub returns : goal.returns
-returns c = record { long = c.loop-i.invariant.long; each = λ k lt. c.loop-i.invariant.each k (omega arith) }
+returns c = record { long = c.loop-address.invariant.long; each = λ k lt. c.loop-address.invariant.each k (omega arith) }

@@ -15,5 +15,5 @@ pub record Filled (out : List ℕ) (from i : ℕ) : Type 0 where
   pub long : length out ≡ 994
   pub each : (k : ℕ) → k < i → get_or out k 0 ≡ interleaved 5 (row table_d) 994 k
 
-abbrev pub invariant-loop-i : goal.invariant-loop-i
-invariant-loop-i l = Filled l.out l.from l.i
+abbrev pub invariant-loop-address : goal.invariant-loop-address
+invariant-loop-address l = Filled l.address-items l.from l.address-index

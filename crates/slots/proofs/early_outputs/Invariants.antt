@@ -1,12 +1,8 @@
--- `slots::early_outputs` meets its contract. The loop's invariant: the first i outputs are there.
-use Prim.Native.Nat.{◌-◌, ◌≤◌}
+-- The first i outputs are there.
 use Rattle.rules.specs.Slots.{scrambling}
 use Rattle.laws.specs.Holds.{Holds}
 use Rattle.laws.specs.Filled.{up_to}
 use Rattle.slots.proofs.early_outputs.Given as goal
 
 abbrev pub invariant-loop-i : goal.invariant-loop-i
-invariant-loop-i l = Holds 0 2000 (up_to l.i (scrambling l.seed l.mask) (λ k. 0)) l.out × (20 ≤ l.i) × (l.i ≤ 80)
-
-abbrev pub decreases-loop-i : goal.decreases-loop-i
-decreases-loop-i l = 80 - l.i
+invariant-loop-i l = Holds 0 80 (up_to l.i (scrambling l.seed l.mask) (λ k. 0)) l.out
