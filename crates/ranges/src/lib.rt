@@ -26,14 +26,7 @@ fn is_between(x: u32, low: u32, high: u32) -> bool
 fn passing(l: &[u32], low: u32, high: u32) -> usize
     ensures { (result ≡ passed (each 4 (between low high) l.now)) × (result ≤ length l.now) }
 {
-    let mut i = 0;
-    while i < l.len() {
-        if !is_between(l[i], low, high) {
-            return i;
-        }
-        i += 1;
-    }
-    i
+    l.iter().take_while(|x| is_between(**x, low, high)).count()
 }
 
 // Field 1: how many masks stand before the first faulty one.
