@@ -10,7 +10,7 @@ use Rattle.ranges.proofs.passing.Goals as goal
 pub returns : goal.returns
 returns c =
     let a = c.args in
-    taken-passed (between a.low a.high) a.l.now
+    taken-passed (between a.range.start a.range.end) a.l.now
     (count_from_yields_List c.take_while.result _ c.count.ensures.ran
-    (YieldsList-from_take_while _ (between a.low a.high) (YieldsList-from_slice a.l.now cc) c.take_while.ensures.closure c.take_while.ensures.done
+    (YieldsList-from_take_while _ (between a.range.start a.range.end) (YieldsList-from_slice a.l.now cc) c.take_while.ensures.closure c.take_while.ensures.done
     (λ x b q k. search (rules, tests))))
