@@ -11,7 +11,7 @@ pub fn part_of_bits(bits: u32) -> f32
     ensures { result ≡ Ieee.of_bits binary32 bits }
 {
     if bits % 0x8000_0000 > 0x7F80_0000 {
-        return 0.0 / 0.0;
+        return f32::NAN;
     }
     f32::from_bits(bits)
 }
@@ -20,28 +20,22 @@ pub fn part_of_bits(bits: u32) -> f32
 pub fn part_of_bytes(b0: u8, b1: u8, b2: u8, b3: u8) -> f32
     ensures { result ≡ Ieee.of_bits binary32 (((b0 * 256 + b1) * 256 + b2) * 256 + b3) }
 {
-    part_of_bits((((b0 as u32) * 256 + (b1 as u32)) * 256 + (b2 as u32)) * 256 + (b3 as u32))
+    part_of_bits(u32::from_be_bytes([b0, b1, b2, b3]))
 }
 
 // The pattern of an f32; a NaN's is the one with only the highest of its digits set.
 pub fn bits_of_part(part: f32) -> u32
     ensures { result ≡ Ieee.to_bits binary32 part }
 {
-    if part != part {
+    if part.is_nan() {
         return 0x7FC0_0000;
     }
-    f32::to_bits(part)
+    part.to_bits()
 }
 
 // Four bytes, high byte first.
 pub fn bytes_of_part(part: f32) -> [u8; 4]
     ensures { result ≡ word_bytes (Ieee.to_bits binary32 part) }
 {
-    let x = bits_of_part(part);
-    [
-        (x / 16777216 % 256) as u8,
-        (x / 65536 % 256) as u8,
-        (x / 256 % 256) as u8,
-        (x % 256) as u8,
-    ]
+    bits_of_part(part).to_be_bytes()
 }

@@ -16,7 +16,9 @@ use Rattle.rules.specs.Profile.{Field, fields, blank, ◌or◌, fault, fault_fro
 use Rattle.rules.specs.Answers.{Answer}
 use Rattle.rules.specs.declared.Profile.{Profile}
 use Rattle.rules.specs.Profile.{Reading}
-use Rattle.profile.specs.Fields.{none, many, field, heading, ending}
+use Rattle.profile.specs.Fields.{none, many, field, place_of, heading, ending}
+use Rattle.profile.specs.declared.fields.Field as code
+use Rattle.std.proofs.Common.{get_or}
 use Rattle.profile.specs.Reader.{Step, refused_at, taken}
 
 -- ---- what a header says, test by test
@@ -96,6 +98,13 @@ fields_at i h = rw (add-one, drop-cons fields i none)
 pub tag_at : (i : ℕ) → i < many → (field i).tag ≡ i + 1
 unfolding field
 tag_at i h = eqb→eq (field i).tag (i + 1) (every-at many (λ k. eqb (field k).tag (k + 1)) tt i h)
+
+-- and in the code's list of the fields each stands at its place
+abbrev pub all : List code.Field
+all = code.TheVariants.Masks ∷ code.TheVariants.Level ∷ code.TheVariants.Mode ∷ code.TheVariants.K ∷ code.TheVariants.Seeds ∷ code.TheVariants.Floor ∷ []
+
+pub place_at : (d : code.Field) (i : ℕ) → i < many → place_of (get_or all i d) ≡ i
+place_at d i h = eqb→eq (place_of (get_or all i d)) i (every-at many (λ k. eqb (place_of (get_or all k d)) k) tt i h)
 
 -- what a field's header and value decide; q is the profile with the value
 pub walk_step : (f : Field) (fs : List Field) (at : ℕ) (p q : Profile) (s : List ℕ) → q ≡ f.with p (take (f.due p) (drop 3 s))

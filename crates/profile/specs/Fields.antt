@@ -2,6 +2,7 @@
 use Rattle.std.specs.Prelude.{not, List, [], ℕ, ◌+◌, ◌*◌, eqb, ltb, length, get_or}
 use Rattle.rules.specs.Bits.{pick, row}
 use Rattle.rules.specs.Profile.{Field, fields, no_more}
+use Rattle.profile.specs.declared.fields.Field as declared
 
 -- how many fields there are
 abbrev pub many : ℕ
@@ -13,6 +14,18 @@ none = record { tag = 0; refusal = 0; due = λ p. 0; with = λ p s. p; tested = 
 
 unfoldable pub field : ℕ → Field
 field i = get_or fields i none
+
+-- where a field of the code stands in the table, and its rule
+abbrev pub place_of : declared.Field → ℕ
+place_of declared.TheVariants.Masks = 0
+place_of declared.TheVariants.Level = 1
+place_of declared.TheVariants.Mode = 2
+place_of declared.TheVariants.K = 3
+place_of declared.TheVariants.Seeds = 4
+place_of declared.TheVariants.Floor = 5
+
+abbrev pub rule_of : declared.Field → Field
+rule_of f = field (place_of f)
 
 -- What the header at the front of s says: 0 where a whole field with this tag and this length stands there, else the number of the refusal
 abbrev pub heading : ℕ → ℕ → List ℕ → ℕ

@@ -23,9 +23,9 @@ pub fn fault(p: Profile) -> Result<(), Refusal>
     ensures { answer_of result ≡ fault_of p }
 {
     let mut at = 0;
-    for i in 0..FIELDS {
-        fields::fault(i, at, p)?;
-        at += 3 + fields::due(i, p);
+    for field in FIELDS {
+        field.fault(at, p)?;
+        at += 3 + field.due(p);
     }
     faults::twin_fault(p)
 }
@@ -50,8 +50,8 @@ pub fn read(bytes: &[u8]) -> Result<Profile, Refusal>
 {
     let mut p = blank();
     let mut at = 0;
-    for i in 0..FIELDS {
-        let taken = reader::field_at(bytes, at, i, p)?;
+    for field in FIELDS {
+        let taken = reader::field_at(bytes, at, field, p)?;
         p = taken.profile;
         at = taken.at;
     }
@@ -66,10 +66,10 @@ fn put_all(s: &mut [u8], p: Profile) -> usize
     ensures { (result ≡ length (written p)) × (s.new ≡ sets s.old 0 (written p)) }
 {
     let mut at = 0;
-    for i in 0..FIELDS {
-        let due = fields::due(i, p);
-        header::put(s, at, (i + 1) as u8, due);
-        fields::put_value(i, p, s, at + 3);
+    for field in FIELDS {
+        let due = field.due(p);
+        header::put(s, at, field.tag(), due);
+        field.put_value(p, s, at + 3);
         at += 3 + due;
     }
     at

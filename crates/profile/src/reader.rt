@@ -1,10 +1,11 @@
 // The lent profile and a position in it, taken field by field. The functions over the struct are thin: the work is done by `take`, on the slice
 // and the number.
-ghost use Rattle.std.specs.Prelude.{◌≡◌, ◌<◌};
-ghost use Rattle.profile.specs.Fields.{many};
+ghost use Rattle.std.specs.Prelude.{◌≡◌};
+ghost use Rattle.profile.specs.Fields.{place_of};
 ghost use Rattle.profile.specs.Reader.{taken, step_of};
 
-use super::{fields, header};
+use super::fields::Field;
+use super::header;
 use rules::{Profile, Refusal};
 
 // A lent profile, and a position in it.
@@ -21,16 +22,15 @@ pub(crate) struct Taken {
     pub(crate) profile: Profile,
 }
 
-// Takes field i at a position of a slice: its header, its value, its range.
-pub(crate) fn take(s: &[u8], at: usize, i: usize, p: Profile) -> Result<Taken, Refusal>
-    requires { i < many }
-    ensures { step_of at p result ≡ taken i p s.now at }
+// Takes a field at a position of a slice: its header, its value, its range.
+pub(crate) fn take(s: &[u8], at: usize, field: Field, p: Profile) -> Result<Taken, Refusal>
+    ensures { step_of at p result ≡ taken (place_of field) p s.now at }
 {
-    let due = fields::due(i, p);
-    header::judge(s, at, (i + 1) as u8, due)?;
+    let due = field.due(p);
+    header::judge(s, at, field.tag(), due)?;
     let next = at + 3 + due;
-    let profile = fields::with_value(i, p, &s[at + 3..next]);
-    fields::fault(i, at, profile)?;
+    let profile = field.with_value(p, &s[at + 3..next]);
+    field.fault(at, profile)?;
     Ok(Taken { at: next, profile })
 }
 
@@ -48,18 +48,16 @@ pub(crate) fn moved<'a>(r: Reader<'a>, at: usize) -> Reader<'a>
     Reader { src: r.src, at }
 }
 
-// Takes field i where the reader stands.
-pub(crate) fn next<'a>(r: Reader<'a>, i: usize, p: Profile) -> Result<Taken, Refusal>
-    requires { i < many }
-    ensures { step_of r.entry.at p result ≡ taken i p r.entry.src.now r.entry.at }
+// Takes a field where the reader stands.
+pub(crate) fn next<'a>(r: Reader<'a>, field: Field, p: Profile) -> Result<Taken, Refusal>
+    ensures { step_of r.entry.at p result ≡ taken (place_of field) p r.entry.src.now r.entry.at }
 {
-    take(r.src, r.at, i, p)
+    take(r.src, r.at, field, p)
 }
 
-// Takes field i at a position, by a reader of its own: whoever calls it holds no reader.
-pub(crate) fn field_at(s: &[u8], at: usize, i: usize, p: Profile) -> Result<Taken, Refusal>
-    requires { i < many }
-    ensures { step_of at p result ≡ taken i p s.now at }
+// Takes a field at a position, by a reader of its own: whoever calls it holds no reader.
+pub(crate) fn field_at(s: &[u8], at: usize, field: Field, p: Profile) -> Result<Taken, Refusal>
+    ensures { step_of at p result ≡ taken (place_of field) p s.now at }
 {
-    next(moved(new(s), at), i, p)
+    next(moved(new(s), at), field, p)
 }

@@ -4,32 +4,36 @@ use mathlib.Core.Bool.{Bool, true, false}
 use mathlib.Core.List.{List, [], ◌∷◌, ◌++◌}
 use Prim.Native.Nat.{ℕ, suc, ◌+◌, ◌-◌, ◌<◌, ◌≤◌}
 use native.Mathlib.Decide.{ℕ_discrete}
-use native.Mathlib.Nat.{add-zero}
-use native.Mathlib.Numerals.{add-one}
 use native.Mathlib.Omega.{arith}
 use borrow.Author.Tests.{eq-eqb, ne_eqb, lt-ltb, le-ltb, le-leb}
 use lib.Dec.{eqb, eqb-suc-suc, eqb-zero-suc}
-use lib.ListN.{length, get_or, take, drop, length-drop, drop_of_length-le}
-use lib.Seq.{drop-cons, length-take-le, take_all}
+use lib.ListN.{length, take, drop, length-drop}
+use lib.Seq.{length-take-le, take_all}
 use Rattle.rules.specs.Bits.{pick}
 use Rattle.rules.specs.Profile.{Tested, each, in20}
 use Rattle.rules.specs.Modes.{slots}
 use Rattle.ranges.specs.Ranges.{between, passed}
+use Rattle.std.specs.List.{prefix_len, take_while}
+use Rattle.std.proofs.Common.{cond}
+use Rattle.std.proofs.lemmas.List.Folds.{length-prefix_len}
 
--- ---- turn by turn: the numbers before place i passed
+-- ---- how many stand at the front that are
 
-module _ (f : ℕ → Bool) (l : List ℕ) (i : ℕ) (held : passed (each 4 f l) ≡ i + passed (each 4 f (drop i l))) where
-  passed-step : i < length l → passed (each 4 f l) ≡ i + pick (f (get_or l i 0)) (suc (passed (each 4 f (drop (i + 1) l)))) 0
-  passed-step h = held ∙ rw (add-one, drop-cons l i 0)
+front : (f : ℕ → Bool) (l : List ℕ) → (prefix_len f l ≡ passed (each 4 f l)) × (prefix_len f l ≤ length l)
+front f [] = (refl, omega arith)
+front f (x ∷ l) = go (f x) (front f l)
+  where
+    go : (b : Bool)
+        → (prefix_len f l ≡ passed (each 4 f l)) × (prefix_len f l ≤ length l)
+        → (let n : ℕ = cond b (1 + prefix_len f l) 0 in (n ≡ pick b (suc (passed (each 4 f l))) 0) × (n ≤ suc (length l)))
+    go true h = (omega (arith, h.0), omega (arith, h.1))
+    go false h = (refl, omega arith)
 
-  pub passed-stop : i < length l → f (get_or l i 0) ≡ false → i ≡ passed (each 4 f l)
-  passed-stop h e = sym (passed-step h ∙ rw e (add-zero i))
-
-  pub passed-more : i < length l → f (get_or l i 0) ≡ true → passed (each 4 f l) ≡ i + 1 + passed (each 4 f (drop (i + 1) l))
-  passed-more h e = passed-step h ∙ rw e (omega arith)
-
-  pub passed-done : length l ≤ i → i ≡ passed (each 4 f l)
-  passed-done h = sym (held ∙ rw (drop_of_length-le l h) (add-zero i))
+pub taken-passed : (f : ℕ → Bool) (l : List ℕ) {n : ℕ} → n ≡ length (take_while f l) → (n ≡ passed (each 4 f l)) × (n ≤ length l)
+taken-passed f l e =
+    let w = e ∙ length-prefix_len f l in
+    let h = front f l in
+    (w ∙ h.0, omega (arith, w, h.1))
 
 -- only zero is below 1
 zeros : between 0 1 ≡ eqb 0

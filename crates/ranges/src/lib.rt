@@ -7,6 +7,8 @@ ghost use Rattle.rules.specs.Profile.{each, floor_under, in20, is_floor, is_leve
 ghost use Rattle.rules.specs.Modes.{slots as slots_of};
 ghost use Rattle.ranges.specs.Ranges.{between, passed};
 
+use std::ops::Range;
+
 // The smallest normal and the largest finite f32.
 const LEAST: f32 = 1.17549435e-38;
 
@@ -15,32 +17,18 @@ const MOST: f32 = 3.40282347e38;
 // Masks and seeds stay below this.
 const LIMIT: u32 = 1_048_576;
 
-// Whether a number is from low to high - 1.
-fn is_between(x: u32, low: u32, high: u32) -> bool
-    ensures { result ≡ between low high x }
+// How many numbers stand before the first that is out of the range; all of them where none is.
+fn passing(l: &[u32], range: Range<u32>) -> usize
+    ensures { (result ≡ passed (each 4 (between range.start range.end) l.now)) × (result ≤ length l.now) }
 {
-    low <= x && x < high
-}
-
-// How many numbers stand before the first that isn't; all of them where each is.
-fn passing(l: &[u32], low: u32, high: u32) -> usize
-    ensures { (result ≡ passed (each 4 (between low high) l.now)) × (result ≤ length l.now) }
-{
-    let mut i = 0;
-    while i < l.len() {
-        if !is_between(l[i], low, high) {
-            return i;
-        }
-        i += 1;
-    }
-    i
+    l.iter().take_while(|x| range.contains(*x)).count()
 }
 
 // Field 1: how many masks stand before the first faulty one.
 pub fn masks_passing(masks: [u32; 8]) -> usize
     ensures { (result ≡ passed (each 4 in20 masks)) × (result ≤ 8) }
 {
-    passing(&masks, 1, LIMIT)
+    passing(&masks, 1..LIMIT)
 }
 
 // Field 2: D is positive, finite and normal; a NaN fails both tests.
@@ -69,11 +57,11 @@ pub fn seeds_passing(mode: u8, seeds: [u32; 48]) -> usize
     ensures { (result ≡ passed (each 4 in20 (take (slots_of mode) seeds) ++ each 4 (eqb 0) (drop (slots_of mode) seeds))) × (result ≤ 48) }
 {
     let n = modes::slot_count(mode);
-    let used = passing(&seeds[..n], 1, LIMIT);
+    let used = passing(&seeds[..n], 1..LIMIT);
     if used < n {
         return used;
     }
-    n + passing(&seeds[n..], 0, 1)
+    n + passing(&seeds[n..], 0..1)
 }
 
 // Whether a floor is +0.0 (whose bits are zero; -0.0's aren't), or positive and finite.

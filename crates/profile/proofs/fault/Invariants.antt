@@ -2,5 +2,5 @@
 use Rattle.profile.proofs.Walk.{Finding}
 use Rattle.profile.proofs.fault.Given as goal
 
-abbrev pub invariant-loop-i : goal.invariant-loop-i
-invariant-loop-i l = Finding l.p l.at l.i
+abbrev pub invariant-loop-field : goal.invariant-loop-field
+invariant-loop-field l = Finding l.p l.at l.field-index

@@ -1,6 +1,7 @@
 -- At the loop's head, what is left to store gives all the bytes.
 use Rattle.std.proofs.Common.{rules, arith, ◌+◌, ◌≤◌, length}
 use Rattle.rules.specs.Profile.{Shape}
+use Rattle.profile.proofs.Walk.{place_at}
 use Rattle.profile.proofs.Written.{store-start, store-room, store-more}
 use Rattle.profile.proofs.put_all.Goals.{After-due-due, Start}
 use Rattle.profile.proofs.put_all.Goals as goal
@@ -9,21 +10,25 @@ shaped : (c : Start) → Shape c.args.p
 shaped c = record { masks = search rules; level = search rules; seeds = search rules; floor = search rules }
 
 -- the field has room
-room : (c : After-due-due) → c.loop-i.at + 3 + c.due-due.result ≤ length c.loop-i.s
-room c =
-    store-room c.loop-i.invariant (shaped c.before.before.before.before) (search rules) c.due-due.ensures.0 c.requires
+room : (c : After-due-due) → Shape c.args.p → c.loop-field.at + 3 + c.due-due.result ≤ length c.loop-field.s
+room c z =
+    let turn = c.loop-field in
+    store-room turn.invariant z (search rules) (rw (place_at _ turn.field-index (search rules)) at c.due-due.ensures.0) c.requires
 
-pub loop-i-init : goal.loop-i-init
-loop-i-init c = store-start
+pub loop-field-init : goal.loop-field-init
+loop-field-init c = store-start
 
 pub put-requires : goal.put-requires
-put-requires c = (omega (arith, room (goal.at.put-requires c).After-due-due), omega arith)
+put-requires c = (omega (arith, room (goal.at.put-requires c).After-due-due (shaped (goal.at.put-requires c).Start)), omega arith)
 
-pub put_value-requires-clause-p_in_bounds : goal.put_value-requires-clause-p_in_bounds
-put_value-requires-clause-p_in_bounds c =
-    omega (arith, room (goal.at.put_value-requires-clause-p_in_bounds c).After-due-due, c.due-due.ensures.0, c.put.auto.s)
+pub put_value-requires : goal.put_value-requires
+put_value-requires c =
+    omega (arith, room (goal.at.put_value-requires c).After-due-due (shaped (goal.at.put_value-requires c).Start), c.due-due.ensures.0, c.put.auto.s)
 
-pub loop-i-preserved : goal.loop-i-preserved
-loop-i-preserved c =
-    store-more c.loop-i.invariant (shaped (goal.at.loop-i-preserved c).Start) (search rules) c.due-due.ensures.0
-    c.put.ensures c.put_value.ensures
+pub loop-field-preserved : goal.loop-field-preserved
+loop-field-preserved c =
+    let turn = c.loop-field in
+    store-more turn.invariant (shaped (goal.at.loop-field-preserved c).Start) (search rules)
+    (rw (place_at _ turn.field-index (search rules)) at c.due-due.ensures.0)
+    (rw (c.tag.ensures, place_at _ turn.field-index (search rules)) at c.put.ensures)
+    (rw (place_at _ turn.field-index (search rules)) at c.put_value.ensures)

@@ -2,5 +2,5 @@
 use Rattle.profile.proofs.Written.{Storing}
 use Rattle.profile.proofs.put_all.Given as goal
 
-abbrev pub invariant-loop-i : goal.invariant-loop-i
-invariant-loop-i l = Storing l.initial.s l.p l.s l.at l.i
+abbrev pub invariant-loop-field : goal.invariant-loop-field
+invariant-loop-field l = Storing l.initial.s l.p l.s l.at l.field-index

@@ -2,5 +2,5 @@
 use Rattle.profile.proofs.Walk.{Walking}
 use Rattle.profile.proofs.read.Given as goal
 
-abbrev pub invariant-loop-i : goal.invariant-loop-i
-invariant-loop-i l = Walking l.bytes l.p l.at l.i
+abbrev pub invariant-loop-field : goal.invariant-loop-field
+invariant-loop-field l = Walking l.bytes l.p l.at l.field-index

@@ -1,17 +1,18 @@
 -- Judged by its header, then by its value.
-use Rattle.std.proofs.Common.{◌∙◌, ap, sym, refl}
+use Rattle.std.proofs.Common.{ℕ, ◌∙◌, ap, sym, refl, drop}
 use Rattle.laws.specs.Refused.{refusal-not-zero, passed_on}
 use Rattle.rules.specs.Answers.{Answer}
+use Rattle.profile.specs.Fields.{place_of, heading}
 use Rattle.profile.proofs.Walk.{Judged, taken_not, taken-bad, taken-good}
 use Rattle.profile.proofs.reader.take.Goals.{After-judge}
 use Rattle.profile.proofs.reader.take.Goals as goal
-use Rattle.profile.specs.Fields.{heading}
-use Rattle.std.proofs.Common.{drop, ◌+◌}
 
 judged : (c : After-judge)
     → let a = c.args in
-    Judged a.s.now a.p a.at a.i c.due-due.result (heading (a.i + 1) c.due-due.result (drop a.at a.s.now))
-judged c = record { length_due = c.due-due.ensures.0; says = refl }
+    Judged a.s.now a.p a.at (place_of a.field) c.due-due.result (heading c.tag.result c.due-due.result (drop a.at a.s.now))
+judged c =
+    let a = c.args in
+    record { length_due = c.due-due.ensures.0; says = ap (λ (t : ℕ). heading t c.due-due.result (drop a.at a.s.now)) c.tag.ensures }
 
 pub returns-in_err-judge : goal.returns-in_err-judge
 returns-in_err-judge c =
