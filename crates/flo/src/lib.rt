@@ -70,7 +70,8 @@ fn hand_over(receipt: Receipt, lost: &mut u16, reasons: &mut [u8; 16], place: &m
 {
     *place = receipt.place;
     *lost = receipt.lost;
-    *reasons = receipt.reasons;
+    let each = receipt.reasons;
+    *reasons = each;
     receipt.number
 }
 
@@ -148,11 +149,13 @@ pub fn flo_read_profile(
         Ok(p) => (p, Ok(())),
         Err(refusal) => (profile::blank(), Err(refusal)),
     };
-    *masks = p.masks;
+    let m = p.masks;
+    let s = p.seeds;
+    *masks = m;
     *level = p.level;
     *mode = p.mode;
     *k = p.k;
-    *seeds = p.seeds;
+    *seeds = s;
     *floor = p.floor;
     place_over(ended, place)
 }
@@ -170,20 +173,29 @@ pub fn flo_write_profile(
 ) -> u32
     ensures { FloWriteProfile masks.now level mode k seeds.now floor profile.new count.new (record { number = result; place = place.new }) }
 {
-    let (bytes, n, ended) = match profile::write(Profile {
-        masks: *masks,
+    let m = *masks;
+    let s = *seeds;
+    let p = Profile {
+        masks: m,
         level,
         mode,
         k,
-        seeds: *seeds,
+        seeds: s,
         floor,
-    }) {
-        Ok(w) => (w.bytes, w.count, Ok(())),
-        Err(refusal) => ([0u8; 252], 0, Err(refusal)),
     };
-    *profile = bytes;
-    *count = n;
-    place_over(ended, place)
+    match profile::write(p) {
+        Ok(w) => {
+            let bytes = w.bytes;
+            *profile = bytes;
+            *count = w.count;
+            place_over(Ok(()), place)
+        }
+        Err(refusal) => {
+            *profile = [0u8; 252];
+            *count = 0;
+            place_over(Err(refusal), place)
+        }
+    }
 }
 
 pub fn flo_parity(k: u8, block: &mut [u8]) -> u32
@@ -213,13 +225,14 @@ pub fn flo_compare(
 pub fn flo_add(totals: &mut [u64], number: u32, lost: u16, reasons: &[u8; 16]) -> u32
     ensures { FloAdd totals.old number lost reasons.now totals.new result }
 {
+    let given = *reasons;
     number_of(adding::add_to(
         totals,
         Receipt {
             number,
             place: 0,
             lost,
-            reasons: *reasons,
+            reasons: given,
         },
     ))
 }

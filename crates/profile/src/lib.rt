@@ -31,7 +31,7 @@ pub fn fault(p: Profile) -> Result<(), Refusal>
 }
 
 // All numbers zero, D and the floor +0.0.
-fn blank() -> Profile
+pub fn blank() -> Profile
     ensures { result ≡ blankOf }
 {
     Profile {
