@@ -13,7 +13,9 @@ use borrow.Author.Tests.{ne_eqb}
 use Rattle.rules.specs.Bits.{pick, row}
 use Rattle.rules.specs.Answers.{outcome_number}
 use Rattle.rules.specs.Outer.{is_k, column, encoded, Restored, ParityMade}
-use Rattle.std.specs.Prelude.{⊤, Result, Ok, Err}
+use Rattle.std.specs.Prelude.{⊤, Option, Some, None, Result, Ok, Err}
+use Rattle.std.specs.Option.{ok_or}
+use Rattle.std.specs.Result.{is_err}
 use Rattle.rules.specs.declared.OuterError.{OuterError}
 use Rattle.rules.specs.declared.OuterError.TheVariants.{BadK, BadLength, TooManyLost, NoCodeword}
 use Rattle.outer.proofs.Roots.{rate}
@@ -73,6 +75,16 @@ module _ {k : ℕ} {before : List ℕ} where
 pub parity-answered : {k n : ℕ} {before after : List ℕ} → T (is_k k) → length before ≡ 1952 → ParityMade k before after n → n ≡ 0
 parity-answered {k} {before = before} t long made =
     made.answer ∙ sym (first-none (is_k k) (eqb (length before) 1952) t (eq→eqb long))
+
+-- ---- what is missing is refused
+
+abbrev error-of : {A E : Type 0} → E → Result A E → E
+error-of d (Ok x) = d
+error-of d (Err e) = e
+
+pub refused-by : {A E : Type 0} (o : Option A) {r : Result A E} {e d : E} → r ≡ ok_or o d → r ≡ Err e → (o ≡ None) × (e ≡ d)
+refused-by None {d = d} v w = (refl, ap (error-of d) (sym w ∙ v))
+refused-by (Some x) v w = absurd (subst (λ (q : Result _ _). T (is_err q)) (sym w ∙ v) tt)
 
 -- ---- one answer only
 

@@ -1,5 +1,7 @@
 -- What the functions of this crate promise one another.
-use Rattle.std.specs.Prelude.{◌≡◌, Bool, true, false, List, [], ℕ, suc, ◌<◌, ltb, length, get_or, Option, Some, None}
+use Rattle.std.specs.Prelude.{◌≡◌, Bool, true, false, List, [], ℕ, suc, ◌<◌, ltb, length, get_or, Result, Ok, Err}
+use Rattle.rules.specs.declared.OuterError.{OuterError}
+use Rattle.rules.specs.declared.OuterError.TheVariants.{NoCodeword}
 use Rattle.rules.specs.Bits.{pick, row}
 use Rattle.rules.specs.Field.{◌⊕◌, ◌⊗◌}
 use Rattle.rules.specs.Outer.{generator, column, marked, Codeword}
@@ -38,6 +40,6 @@ Solved n r lost block out =
     (j : ℕ) → j < n → Codeword r (solved r lost (column block j)) × ((p : ℕ) → p < 16 → column out j p ≡ solved r lost (column block j) p)
 
 -- all columns are, or some column has no codeword
-abbrev pub Works : ℕ → ℕ → List ℕ → Option (List ℕ) → Type 0
-Works r lost block (Some out) = Solved 122 r lost block out
-Works r lost block None = (j : ℕ) × (j < 122) × (¬ Codeword r (solved r lost (column block j)))
+abbrev pub Works : ℕ → ℕ → List ℕ → Result (List ℕ) OuterError → Type 0
+Works r lost block (Ok out) = Solved 122 r lost block out
+Works r lost block (Err e) = (e ≡ NoCodeword) × ((j : ℕ) × (j < 122) × (¬ Codeword r (solved r lost (column block j))))

@@ -1,6 +1,7 @@
 // The division by the generator: parity of a column, and the test whether it is a codeword. Of a column's 16 bytes the last r are parity.
-ghost use Rattle.std.specs.Prelude.{◌≡◌, ◌-◌, ◌≤◌, is_some, IfSome};
+ghost use Rattle.std.specs.Prelude.{◌≡◌, ◌-◌, ◌≤◌, is_ok, MatchResult};
 ghost use Rattle.rules.specs.Bits.{row};
+ghost use Rattle.rules.specs.declared.OuterError.TheVariants.{BadK};
 ghost use Rattle.rules.specs.Outer as rule;
 ghost use Rattle.rules.specs.Outer.{is_k, Codeword};
 ghost use Rattle.laws.specs.Holds.{Holds};
@@ -8,6 +9,7 @@ ghost use Rattle.outer.specs.Steps as steps;
 ghost use Rattle.outer.specs.Steps.{Starts, Says, divided};
 
 use field::Element;
+use rules::OuterError;
 
 // The generators for r = 8, 4 and 2 from x^(r-1) down to 1, and ones after that, where nobody looks.
 const G8: [u8; 8] = [238, 245, 94, 235, 94, 245, 238, 1];
@@ -25,15 +27,15 @@ pub(crate) struct Parity {
 
 impl Parity {
     // Only for a K that is 8, 12 or 14.
-    pub(crate) fn of(k: u8) -> Option<Parity>
-        ensures some { is_some result ≡ is_k k }
-        ensures rest { IfSome result (λ parity. parity.r ≡ 16 - k) }
+    pub(crate) fn of(k: u8) -> Result<Parity, OuterError>
+        ensures ok { is_ok result ≡ is_k k }
+        ensures rest { MatchResult result (λ parity. parity.r ≡ 16 - k) (λ e. e ≡ BadK) }
     {
         match k {
-            8 | 12 | 14 => Some(Parity {
+            8 | 12 | 14 => Ok(Parity {
                 r: (16 - k) as usize,
             }),
-            _ => None,
+            _ => Err(OuterError::BadK),
         }
     }
 

@@ -18,12 +18,8 @@ use solution::System;
 pub fn fill_parity(k: u8, block: &mut [u8]) -> Result<(), OuterError>
     ensures { ParityMade k block.old block.new (outcome_number result) }
 {
-    let Some(parity) = Parity::of(k) else {
-        return Err(OuterError::BadK);
-    };
-    let Some(block) = block.as_mut_array::<1952>() else {
-        return Err(OuterError::BadLength);
-    };
+    let parity = Parity::of(k)?;
+    let block = block.as_mut_array::<1952>().ok_or(OuterError::BadLength)?;
     for j in 0..122 {
         let c = columns::kept(0, block, j);
         columns::put(parity.encoded(c), j, block);
@@ -35,18 +31,9 @@ pub fn fill_parity(k: u8, block: &mut [u8]) -> Result<(), OuterError>
 pub fn restore(k: u8, lost: u16, block: &mut [u8]) -> Result<(), OuterError>
     ensures { Restored k lost block.old block.new (outcome_number result) }
 {
-    let Some(parity) = Parity::of(k) else {
-        return Err(OuterError::BadK);
-    };
-    let Some(block) = block.as_mut_array::<1952>() else {
-        return Err(OuterError::BadLength);
-    };
-    let Some(system) = System::of(parity, lost) else {
-        return Err(OuterError::TooManyLost);
-    };
-    let Some(out) = system.block(block) else {
-        return Err(OuterError::NoCodeword);
-    };
-    *block = out;
+    let parity = Parity::of(k)?;
+    let block = block.as_mut_array::<1952>().ok_or(OuterError::BadLength)?;
+    let system = System::of(parity, lost)?;
+    *block = system.solved(block)?;
     Ok(())
 }

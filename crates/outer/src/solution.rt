@@ -1,8 +1,9 @@
 // The columns worked out, by the matrix for the lost packets.
-ghost use Rattle.std.specs.Prelude.{◌≡◌, ◌<◌, ◌≤◌, MatchOption};
+ghost use Rattle.std.specs.Prelude.{◌≡◌, ◌<◌, ◌≤◌, MatchResult};
 ghost use Rattle.std.specs.Int.Count.{ones};
 ghost use Rattle.rules.specs.Bits.{row};
 ghost use Rattle.rules.specs.Field.{◌⊕◌, ◌⊗◌};
+ghost use Rattle.rules.specs.declared.OuterError.TheVariants.{TooManyLost};
 ghost use Rattle.rules.specs.Outer as rule;
 ghost use Rattle.rules.specs.Outer.{column};
 ghost use Rattle.laws.specs.Holds.{Holds};
@@ -14,6 +15,7 @@ use super::columns::{kept, lost_at, put};
 use super::division::Parity;
 use super::matrix::rows;
 use field::Element;
+use rules::OuterError;
 
 // Eight powers of α in a row, of which the first r are the roots.
 fn roots(parity: Parity) -> [u8; 8]
@@ -77,13 +79,13 @@ pub(crate) struct System {
 
 impl System {
     // Only where no more packets are lost than there are of parity.
-    pub(crate) fn of(parity: Parity, lost: u16) -> Option<System>
-        ensures { MatchOption result (parity.r < ones lost) (λ s. (ones lost ≤ parity.r) × (s.parity.r ≡ parity.r) × (s.lost ≡ lost)) }
+    pub(crate) fn of(parity: Parity, lost: u16) -> Result<System, OuterError>
+        ensures { MatchResult result (λ s. (ones lost ≤ parity.r) × (s.parity.r ≡ parity.r) × (s.lost ≡ lost)) (λ e. (e ≡ TooManyLost) × (parity.r < ones lost)) }
     {
         if lost.count_ones() > parity.r as u32 {
-            return None;
+            return Err(OuterError::TooManyLost);
         }
-        Some(System {
+        Ok(System {
             parity,
             lost,
             roots: roots(parity),
@@ -108,18 +110,18 @@ impl System {
         c
     }
 
-    // All columns, or nothing where one has no codeword.
-    pub(crate) fn block(&self, block: &[u8; 1952]) -> Option<[u8; 1952]>
+    // All columns, where each has a codeword.
+    pub(crate) fn solved(&self, block: &[u8; 1952]) -> Result<[u8; 1952], OuterError>
         ensures { Works self.now.parity.r self.now.lost block.now result }
     {
         let mut out = [0u8; 1952];
         for j in 0..122 {
             let c = self.column(block, j);
             if !self.parity.is_codeword(c) {
-                return None;
+                return Err(OuterError::NoCodeword);
             }
             put(c, j, &mut out);
         }
-        Some(out)
+        Ok(out)
     }
 }

@@ -14,7 +14,10 @@ use Rattle.outer.specs.Solve.{kept}
 use Rattle.outer.specs.Steps.{Put}
 use Rattle.laws.specs.Filled.{up_to, up_to-below, up_to-from}
 use Rattle.outer.proofs.Roots.{encoded-same}
-use Rattle.outer.proofs.Answers.{parity-done}
+use Rattle.std.specs.Result.{result_ok}
+use Rattle.std.proofs.lemmas.Result.{err_from_is_err_and}
+use Rattle.std.proofs.lemmas.Option.{MatchOption-at_some, MatchOption-at_none}
+use Rattle.outer.proofs.Answers.{parity-bad-k, parity-bad-length, parity-done, refused-by}
 use native.Mathlib.Omega.{arith}
 use Rattle.outer.proofs.fill_parity.Invariants.{Made}
 use lib.ListN.{length}
@@ -54,11 +57,23 @@ made-all r k before now after e same n all made j l p m =
     subst₂ (λ (q : ℕ) (b : List ℕ). column after j p ≡ encoded q (column b j) p) e same
     (made j l p m ∙ up_to-below (λ i. encoded r (column now i) p) (λ i. column now i p) n j (omega arith))
 
+pub returns-in_err-parity : goal.returns-in_err-parity
+returns-in_err-parity c =
+    let p = err_from_is_err_and c.from_residual.result c.from_residual.ensures.1 in
+    let e = c.in_err-parity.ensures in
+    rw (p.1, p.2, e.rest) (parity-bad-k (λ t. subst T (sym e.ok) t))
+
+pub returns-in_err-block : goal.returns-in_err-block
+returns-in_err-block c =
+    let p = err_from_is_err_and c.from_residual-in_err-block.result c.from_residual-in_err-block.ensures.1 in
+    let lacks = refused-by c.as_mut_array.result c.ok_or.ensures.value c.in_err-block.was in
+    rw (p.1, p.2, lacks.1) (parity-bad-length (subst T c.in_ok-parity.ensures.ok tt) (MatchOption-at_none _ _ lacks.0 c.as_mut_array.ensures.cases))
+
 pub loop-j-init : goal.loop-j-init
 loop-j-init c =
-    let b = c.in-Some-as_mut_array.block.now in
-    let r = c.in-Some.parity.r in
-    let whole = c.in-Some-as_mut_array.ensures.cases in
+    let b = c.in_ok-block.block.now in
+    let r = c.in_ok-parity.parity.r in
+    let whole = MatchOption-at_some _ _ c.in_ok-block.block (c.ok_or.ensures.ok_part ∙ ap result_ok c.in_ok-block.was) c.as_mut_array.ensures.cases in
     (omega arith, ap length whole.same ∙ whole.long, λ j l p m. sym (up_to-from (λ i. encoded r (column b i) p) (λ i. column b i p) 0 j (omega arith)))
 
 pub loop-j-preserved : goal.loop-j-preserved
@@ -66,13 +81,13 @@ loop-j-preserved c =
     let l = c.loop-j in (
       omega arith,
       c.put.ensures.long,
-      made_more c.in-Some.parity.r l.j c.in-Some-as_mut_array.block.now l.block _ c.kept-c.result c.encoded.result (omega arith)
+      made_more c.in_ok-parity.parity.r l.j c.in_ok-block.block.now l.block _ c.kept-c.result c.encoded.result (omega arith)
           l.invariant.2 c.kept-c.ensures c.encoded.ensures c.put.ensures,
     )
 
 pub returns : goal.returns
 returns c =
     let l = c.loop-j in
-    let whole = c.in-Some-as_mut_array.ensures.cases in
-    parity-done (subst T c.in-Some.ensures.some tt) whole.long l.invariant.1
-    (made-all c.in-Some.parity.r c.args.k c.args.block.now c.in-Some-as_mut_array.block.now l.block c.in-Some.ensures.rest whole.same l.j (omega arith) l.invariant.2)
+    let whole = MatchOption-at_some _ _ c.in_ok-block.block (c.ok_or.ensures.ok_part ∙ ap result_ok c.in_ok-block.was) c.as_mut_array.ensures.cases in
+    parity-done (subst T c.in_ok-parity.ensures.ok tt) whole.long l.invariant.1
+    (made-all c.in_ok-parity.parity.r c.args.k c.args.block.now c.in_ok-block.block.now l.block c.in_ok-parity.ensures.rest whole.same l.j (omega arith) l.invariant.2)

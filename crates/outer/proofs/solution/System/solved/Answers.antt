@@ -1,5 +1,5 @@
 -- The loop's invariant: the first j columns are worked out, and they are codewords.
-use mathlib.Core.Path.{◌≡◌, sym, ◌∙◌, subst}
+use mathlib.Core.Path.{◌≡◌, refl, sym, ◌∙◌, subst}
 use mathlib.Core.List.{List}
 use Prim.Native.Nat.{ℕ, ◌+◌, ◌≤◌, ◌<◌}
 use borrow.Author.Count.{below_more}
@@ -10,7 +10,7 @@ use Rattle.outer.specs.Solve.{solved}
 use Rattle.outer.specs.Steps.{Put, Says, Solved}
 use Rattle.outer.proofs.Roots.{codeword-same}
 use native.Mathlib.Omega.{arith}
-use Rattle.outer.proofs.solution.System.block.Goals as goal
+use Rattle.outer.proofs.solution.System.solved.Goals as goal
 
 -- a turn
 column-more : (r lost j : ℕ) (block out out' c : List ℕ) → r ≤ 8 → j < 122 → Solved j r lost block out → Holds 0 16 (solved r lost (column block j)) c
@@ -29,7 +29,7 @@ returns-then-not-is_codeword c =
     let s = c.column-c in
     let t = c.is_codeword in
     let none = subst (Says (Codeword c.args.self.now.parity.r (row s.result))) (c.if-not-is_codeword.true) t.ensures in
-    (l.j, omega arith, λ w. none (codeword-same (omega arith) s.ensures.each w))
+    (refl, (l.j, omega arith, λ w. none (codeword-same (omega arith) s.ensures.each w)))
 
 pub loop-j-preserved : goal.loop-j-preserved
 loop-j-preserved c =
