@@ -23,7 +23,8 @@ use rules::{Cell, Misfit, Point, PointOf};
 pub fn point_of(mode: u8, level: f32, bits: [u8; 4]) -> Point
     ensures { result ≡ point_of (part_bits mode) level (row bits) }
 {
-    Parts::of(level).point(modes::part_bits(mode), &bits, 0)
+    let parts = Parts::of(level);
+    if modes::part_bits(mode) == 1 { parts.point::<1>(&bits, 0) } else { parts.point::<2>(&bits, 0) }
 }
 
 // Whether a symbol is one of the grid.
@@ -60,8 +61,8 @@ fn fitting(mode: u8, symbol: usize, bits: usize, firsts: usize, seconds: usize) 
     firsts == 4096 && seconds == 4096 && in_grid(mode, symbol) && bits == modes::block_bits(mode)
 }
 
-// One symbol's 4096 cells, in rising order.
-fn write_cells(
+// One symbol's 4096 cells, in rising order, in a mode that has W bits a part.
+fn write_cells<const W: usize>(
     mode: u8,
     level: f32,
     bits: &[u8],
@@ -69,10 +70,11 @@ fn write_cells(
     firsts: &mut [f32],
     seconds: &mut [f32],
 )
-    requires { symbolRule.fitting mode symbol (length bits.now) (length firsts.old) (length seconds.old) ≡ true }
+    requires { (W ≡ part_bits mode)
+        × (symbolRule.fitting mode symbol (length bits.now) (length firsts.old) (length seconds.old) ≡ true) }
     ensures { Written mode level bits.now symbol firsts.new seconds.new }
 {
-    let pen = Pen::of(mode, level);
+    let pen = Pen::<W>::of(mode, level);
     for c in 0..4096 {
         let parts = parts_of(pen.cell(bits, symbol, c));
         firsts[c] = parts.first;
@@ -95,6 +97,10 @@ pub fn write_symbol(
     if !fitting(mode, symbol, bits.len(), firsts.len(), seconds.len()) {
         return Err(Misfit);
     }
-    write_cells(mode, level, bits, symbol, firsts, seconds);
+    if modes::part_bits(mode) == 1 {
+        write_cells::<1>(mode, level, bits, symbol, firsts, seconds);
+    } else {
+        write_cells::<2>(mode, level, bits, symbol, firsts, seconds);
+    }
     Ok(())
 }

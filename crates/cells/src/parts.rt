@@ -38,26 +38,26 @@ impl Parts {
         }
     }
 
-    // The part of the bits from a place on, where it has w bits: one or two.
-    fn part(&self, w: usize, bits: &[u8], at: usize) -> f32
-        requires { (1 ≤ w) × (w ≤ 2) × (at + w ≤ length bits.now) }
-        ensures { result ≡ part w self.now.level (λ j. row bits.now (at + j)) }
+    // The part of the bits from a place on, where it has W bits: one or two.
+    fn part<const W: usize>(&self, bits: &[u8], at: usize) -> f32
+        requires { (1 ≤ W) × (W ≤ 2) × (at + W ≤ length bits.now) }
+        ensures { result ≡ part W self.now.level (λ j. row bits.now (at + j)) }
     {
-        if w == 1 {
+        if W == 1 {
             self.signed[usize::from(bits[at])]
         } else {
             self.sized[2 * flag(bits[at]) + flag(bits[at + 1])]
         }
     }
 
-    // The point of the bits from a place on, where a part has w bits.
-    pub(crate) fn point(&self, w: usize, bits: &[u8], at: usize) -> Point
-        requires { (1 ≤ w) × (w ≤ 2) × (at + 2 * w ≤ length bits.now) }
-        ensures { result ≡ point_of w self.now.level (λ j. row bits.now (at + j)) }
+    // The point of the bits from a place on, where a part has W bits.
+    pub(crate) fn point<const W: usize>(&self, bits: &[u8], at: usize) -> Point
+        requires { (1 ≤ W) × (W ≤ 2) × (at + 2 * W ≤ length bits.now) }
+        ensures { result ≡ point_of W self.now.level (λ j. row bits.now (at + j)) }
     {
         Point {
-            first: self.part(w, bits, at),
-            second: self.part(w, bits, at + w),
+            first: self.part::<W>(bits, at),
+            second: self.part::<W>(bits, at + W),
         }
     }
 }

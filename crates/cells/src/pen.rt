@@ -1,4 +1,4 @@
-// What a block's cells are written by.
+// What a block's cells are written by, where a part has W bits. The number is known when this is compiled: no cell asks for it.
 ghost use Rattle.std.specs.Prelude.{◌≡◌, ◌+◌, ◌*◌, ◌<◌, ◌≤◌, length};
 ghost use Rattle.rules.specs.Modes as figures;
 ghost use Rattle.cells.specs.Symbol.{symbol_cell};
@@ -7,25 +7,24 @@ use super::carrier::Carrier;
 use super::parts::Parts;
 use rules::{Cell, PointOf};
 
-// Which points the cells carry, how many bits a slot and a part have, and the parts at the level.
+// Which points the cells carry, how many bits a slot has, and the parts at the level.
 #[derive(Drop)]
-pub(crate) struct Pen {
+pub(crate) struct Pen<const W: usize> {
     carrier: Carrier,
     slot_bits: usize,
-    part_bits: usize,
     parts: Parts,
     ghost slot_long: { slot_bits ≡ figures.slot_bits carrier.mode },
-    ghost part_long: { part_bits ≡ figures.part_bits carrier.mode },
+    ghost part_long: { W ≡ figures.part_bits carrier.mode },
 }
 
-impl Pen {
-    pub(crate) fn of(mode: u8, level: f32) -> Pen
+impl<const W: usize> Pen<W> {
+    pub(crate) fn of(mode: u8, level: f32) -> Pen<W>
+        requires { W ≡ figures.part_bits mode }
         ensures { (result.carrier.mode ≡ mode) × (result.parts.level ≡ level) }
     {
         Pen {
             carrier: Carrier::of(mode),
             slot_bits: modes::slot_bits(mode),
-            part_bits: modes::part_bits(mode),
             parts: Parts::of(level),
         }
     }
@@ -39,7 +38,7 @@ impl Pen {
             × (result + 2 * figures.part_bits m ≤ figures.slot_bits m * figures.slots m)
         }
     {
-        self.slot_bits * p.slot + 2 * self.part_bits * p.point
+        self.slot_bits * p.slot + 2 * W * p.point
     }
 
     // The cell of a symbol whose block has these scrambled bits.
@@ -52,7 +51,7 @@ impl Pen {
     {
         match self.carrier.cell(symbol, c) {
             None => Cell::Silent,
-            Some(p) => Cell::Carries(self.parts.point(self.part_bits, bits, self.first_bit(p))),
+            Some(p) => Cell::Carries(self.parts.point::<W>(bits, self.first_bit(p))),
         }
     }
 }

@@ -8,7 +8,7 @@ use Rattle.cells.specs.Symbol.{symbol_cell}
 use Rattle.cells.proofs.write_cells.Given as goal
 
 abbrev pub invariant-loop-c : goal.invariant-loop-c
-invariant-loop-c l =
+invariant-loop-c g l =
     (l.c ≤ 4096)
     × Holds zero_part 4096 (up_to l.c (λ k. first_part (symbol_cell l.mode l.level l.bits l.symbol k)) (λ k. get_or l.initial.firsts k zero_part)) l.firsts
     × Holds zero_part 4096 (up_to l.c (λ k. second_part (symbol_cell l.mode l.level l.bits l.symbol k)) (λ k. get_or l.initial.seconds k zero_part)) l.seconds

@@ -14,20 +14,20 @@ use Rattle.cells.proofs.Signs.{point-same}
 use Rattle.cells.proofs.pen.Pen.cell.Goals as goal
 
 pub first_bit-requires : goal.first_bit-requires
-first_bit-requires c =
+first_bit-requires g c =
     let a = c.args in
     let p = c.in-Some.p in
     let w = cell-carried a.self.now.carrier.mode a.symbol a.c p.slot p.point (sym c.cell.ensures ∙ c.in-Some.is) in
-    (w.0, w.1)
+    (omega arith, (w.0, w.1))
 
 pub point-requires : goal.point-requires
-point-requires c =
+point-requires g c =
     let s = c.args.self.now in
     let few = part-bounds s.carrier.mode in
     (omega (arith, few, s.part_long), omega (arith, few, s.part_long), omega (arith, s.part_long))
 
 pub returns-in-Some : goal.returns-in-Some
-returns-in-Some c =
+returns-in-Some g c =
     let a = c.args in
     let s = a.self.now in
     let p = c.in-Some.p in
@@ -36,7 +36,7 @@ returns-in-Some c =
     let m = s.carrier.mode in
     ap Carries
     (c.point.ensures
-    ∙ point-same s.part_bits level (λ j. bit (c.first_bit.result + j)) (λ j. slot_bit m a.bits.now p.slot (2 * part_bits m * p.point + j))
+    ∙ point-same g.row.W level (λ j. bit (c.first_bit.result + j)) (λ j. slot_bit m a.bits.now p.slot (2 * part_bits m * p.point + j))
     (λ j. ap bit (omega (arith, c.first_bit.ensures.0)))
     ∙ ap (λ (w : ℕ). point_of w level (λ j. slot_bit m a.bits.now p.slot (2 * part_bits m * p.point + j))) s.part_long)
     ∙ ap (cell_for (part_bits m) level (slot_bit m a.bits.now)) (sym c.in-Some.is ∙ c.cell.ensures)
