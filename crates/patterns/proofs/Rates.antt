@@ -1,5 +1,5 @@
 -- The place of each bit that is sent at a rate: all that a rate has to pass is one computed test.
-use mathlib.Core.Path.{◌≡◌, refl, sym, ap₂, ◌∙◌}
+use mathlib.Core.Path.{◌≡◌, refl, sym, ap, ap₂, ◌∙◌}
 use mathlib.Core.Bool.{Bool, ◌&&◌}
 use mathlib.Core.List.{List}
 use Prim.Native.Nat.{ℕ, suc, ◌+◌, ◌-◌, ◌*◌, ◌/◌, ◌%◌, ◌<◌, ◌≤◌}
@@ -8,6 +8,7 @@ use native.Mathlib.Decide.{dec_lt}
 use native.Mathlib.Omega.{arith}
 use lib.Dec.{T, eqb, ltb, ltb→lt, eqb→eq}
 use lib.Ieee.Fits.{and_l, and_r}
+use borrow.Author.Tests.{lt-ltb, le-ltb}
 use lib.ListN.{length, get_or}
 use Rattle.rules.specs.Bits.{every_below}
 use Rattle.rules.specs.Turbo.{Sent, X, Y0, X', Y'0, at, period, pattern, tail, data_length, coded_length, data_place}
@@ -15,7 +16,7 @@ use Rattle.rules.specs.declared.Rate.{Rate}
 use Rattle.rules.specs.declared.Rate.TheVariants.{Half, Third, TwoThirds}
 use Rattle.laws.specs.Every.{every-at}
 use Rattle.laws.specs.Filled.{pick-lt, pick-ge}
-use Rattle.patterns.specs.Places.{place_from, place}
+use Rattle.patterns.specs.Places.{place_from, place, place_by}
 
 -- ---- the test of a rate
 
@@ -112,58 +113,40 @@ own-place R i lt =
 
 -- ---- a place by a table
 
--- An entry of a table; it is shut, so that a proof finds the table in the code.
-pub entry : List ℕ → ℕ → ℕ
-entry l e = get_or l e 0
-
-pub entry-is : (l : List ℕ) (e : ℕ) → get_or l e 0 ≡ entry l e
-unfolding entry
-entry-is l e = refl
-
 place_from-add : (i : ℕ) (s : Sent) → place_from i s ≡ i + place_from 0 s
 place_from-add i (at o k) = omega arith
 
--- a place by a table of the pattern, where b is where the pattern begins
-pub place-by-data : (R : Rate) (l : List ℕ)
-    → T (every_below (pattern_length R) (λ e. eqb (get_or l e 0) (place_from 0 (in_pattern R e))))
-    → (n b : ℕ)
-    → n < data_length R 994
-    → b ≡ begun R n
-    → b + entry l (n % pattern_length R) ≡ place R n
-unfolding entry
-place-by-data R l t n b lt begins =
-    ap₂ ◌+◌ begins
-    (eqb→eq _ _ (every-at (pattern_length R) (λ e. eqb (get_or l e 0) (place_from 0 (in_pattern R e))) t (n % pattern_length R)
-    (mod-lt n (ltb→lt 0 (pattern_length R) (passed R).0))))
-    ∙ sym (place-data R n lt ∙ place_from-add (begun R n) (output_of R n))
+module _ (ls : List ℕ) (bits long : ℕ) (ts : List ℕ) (n : ℕ) where
+  -- place_by, below the data's length and from there on
+  pub by-data : (d : ℕ) → length ls ≡ d → n < long → place_by ls bits long ts n ≡ n / d * bits + get_or ls (n % d) 0
+  unfolding place_by
+  by-data d e lt = rw (lt-ltb n long lt, e)
 
--- and by what a table says of each entry of the tail
-tail-by : (R : Rate) (f : ℕ → ℕ)
-    → T (every_below (length (tail R)) (λ e. eqb (f e) (place_from 994 (in_tail R e))))
-    → (n : ℕ)
-    → data_length R 994 ≤ n
-    → n < coded_length R 994
-    → f (n - data_length R 994) ≡ place R n
-tail-by R f t n le lt =
-    eqb→eq _ _ (every-at (length (tail R)) (λ e. eqb (f e) (place_from 994 (in_tail R e))) t (n - data_length R 994) (omega arith))
-    ∙ sym (place-tail R n le)
+  pub by-tail : (t : ℕ) → length ts ≡ t → long ≤ n → place_by ls bits long ts n ≡ 1994 * ((n - long) / t) + get_or ts ((n - long) % t) 0
+  unfolding place_by
+  by-tail t e le = rw (le-ltb n long le, e)
 
--- a table of the whole tail
-pub place-by-tail : (R : Rate) (l : List ℕ)
-    → T (every_below (length (tail R)) (λ e. eqb (get_or l e 0) (place_from 994 (in_tail R e))))
+-- tables that pass two computed tests against the rate's pattern and tail have its places
+pub by-tables : (R : Rate) (ls : List ℕ) (bits long : ℕ) (ts : List ℕ)
+    → length ls ≡ pattern_length R
+    → bits ≡ period R
+    → long ≡ data_length R 994
+    → T (every_below (pattern_length R) (λ e. eqb (get_or ls e 0) (place_from 0 (in_pattern R e))))
+    → T (every_below (length (tail R)) (λ e. eqb (1994 * (e / length ts) + get_or ts (e % length ts) 0) (place_from 994 (in_tail R e))))
     → (n : ℕ)
-    → data_length R 994 ≤ n
     → n < coded_length R 994
-    → entry l (n - data_length R 994) ≡ place R n
-unfolding entry
-place-by-tail R l = tail-by R (entry l)
-
--- a table of its first h entries, where the second encoder's are the same 1994 places on
-pub place-by-half-tail : (R : Rate) (h : ℕ) (l : List ℕ)
-    → T (every_below (length (tail R)) (λ e. eqb (1994 * (e / h) + get_or l (e % h) 0) (place_from 994 (in_tail R e))))
-    → (n : ℕ)
-    → data_length R 994 ≤ n
-    → n < coded_length R 994
-    → 1994 * ((n - data_length R 994) / h) + entry l ((n - data_length R 994) % h) ≡ place R n
-unfolding entry
-place-by-half-tail R h l = tail-by R (λ e. 1994 * (e / h) + entry l (e % h))
+    → place_by ls bits long ts n ≡ place R n
+by-tables R ls bits long ts wide many begins data-is tail-is n lt = go (dec_lt n (data_length R 994))
+  where
+    go : Dec (n < data_length R 994) → place_by ls bits long ts n ≡ place R n
+    go (yes h) =
+        by-data ls bits long ts n (pattern_length R) wide (omega (arith, begins))
+        ∙ ap₂ ◌+◌ (ap (λ (b : ℕ). n / pattern_length R * b) many)
+        (eqb→eq _ _ (every-at (pattern_length R) (λ e. eqb (get_or ls e 0) (place_from 0 (in_pattern R e))) data-is (n % pattern_length R)
+        (mod-lt n (ltb→lt 0 (pattern_length R) (passed R).0))))
+        ∙ sym (place-data R n h ∙ place_from-add (begun R n) (output_of R n))
+    go (no h) =
+        let t : ℕ → ℕ = λ (e : ℕ). 1994 * (e / length ts) + get_or ts (e % length ts) 0 in
+        by-tail ls bits long ts n (length ts) refl (omega (arith, begins)) ∙ ap (λ (d : ℕ). t (n - d)) begins
+        ∙ eqb→eq _ _ (every-at (length (tail R)) (λ e. eqb (t e) (place_from 994 (in_tail R e))) tail-is (n - data_length R 994) (omega arith))
+        ∙ sym (place-tail R n (omega arith))

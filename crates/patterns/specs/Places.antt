@@ -27,6 +27,12 @@ place R n =
     (place_from (n / length (pattern R) * period R) (get_or (pattern R) (n % length (pattern R)) (at X 0)))
     (place_from entered (get_or (tail R) (n - data_length R entered) (at X 0)))
 
+-- the place of bit n by tables: of a pattern's outputs, which are those of so many bits, below the data's length, then of an encoder's end
+unfoldable pub place_by : List ℕ → ℕ → ℕ → List ℕ → ℕ → ℕ
+place_by ls bits long ts n =
+    pick (ltb n long) (n / length ls * bits + get_or ls (n % length ls) 0)
+    (1994 * ((n - long) / length ts) + get_or ts ((n - long) % length ts) 0)
+
 -- the place, among the four streams, of what is sent as bit i
 abbrev pub sent_place : ℕ → ℕ → ℕ
 sent_place m i = place (rate m) (bit_interleaved (packet_bits m) i)

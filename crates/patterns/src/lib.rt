@@ -11,60 +11,49 @@ ghost use Rattle.patterns.specs.Places.{Places, OwnPlaces};
 
 use rules::Rate;
 
-// Rate 1/3: where the outputs of a bit stand, and those that end the first encoder.
-const THIRD_DATA: [u16; 3] = [0, 997, 2991];
-
-const THIRD_TAIL: [u16; 9] = [994, 994, 1991, 995, 995, 1992, 996, 996, 1993];
-
-// Rate 1/2: the same, of two bits.
-const HALF_DATA: [u16; 4] = [0, 997, 1, 2992];
-
-const HALF_TAIL: [u16; 6] = [994, 1991, 995, 1992, 996, 1993];
-
-// Rate 2/3: the same, of four bits; the tail has both encoders', which don't end alike.
-const TWO_THIRDS_DATA: [u16; 6] = [0, 997, 1, 2, 3, 2994];
-
-const TWO_THIRDS_TAIL: [u16; 9] = [994, 1991, 995, 996, 1993, 2988, 2989, 3986, 2990];
-
-fn wide(x: u16) -> usize
-    ensures { (result ≡ x) × (result < 65536) }
-{
-    x as usize
+// What a rate sends: the places of the outputs of as many bits as its pattern has, and of those that end an encoder. What the second encoder's end sends
+// is the same, 1994 places on, where the tail has not both.
+struct Pattern<const D: usize, const T: usize> {
+    data: [u16; D],
+    bits: usize,
+    data_length: usize,
+    tail: [u16; T],
 }
 
-fn place_third(n: usize) -> usize
-    requires { n < 3000 }
-    ensures { result ≡ spec.place Rate.Third n }
-{
-    if n < 2982 {
-        n / 3 + wide(THIRD_DATA[n % 3])
-    } else {
-        let t = n - 2982;
-        1994 * (t / 9) + wide(THIRD_TAIL[t % 9])
-    }
-}
+const THIRD: Pattern<3, 9> = Pattern {
+    data: [0, 997, 2991],
+    bits: 1,
+    data_length: 2982,
+    tail: [994, 994, 1991, 995, 995, 1992, 996, 996, 1993],
+};
 
-fn place_half(n: usize) -> usize
-    requires { n < 2000 }
-    ensures { result ≡ spec.place Rate.Half n }
-{
-    if n < 1988 {
-        n / 4 * 2 + wide(HALF_DATA[n % 4])
-    } else {
-        let t = n - 1988;
-        1994 * (t / 6) + wide(HALF_TAIL[t % 6])
-    }
-}
+const HALF: Pattern<4, 6> = Pattern {
+    data: [0, 997, 1, 2992],
+    bits: 2,
+    data_length: 1988,
+    tail: [994, 1991, 995, 1992, 996, 1993],
+};
 
-// The data has 1491 bits: the last pattern is used for two bits only.
-fn place_two_thirds(n: usize) -> usize
-    requires { n < 1500 }
-    ensures { result ≡ spec.place Rate.TwoThirds n }
-{
-    if n < 1491 {
-        n / 6 * 4 + wide(TWO_THIRDS_DATA[n % 6])
-    } else {
-        wide(TWO_THIRDS_TAIL[n - 1491])
+// The data has 1491 bits: the last pattern is used for two bits only. The two encoders don't end alike.
+const TWO_THIRDS: Pattern<6, 9> = Pattern {
+    data: [0, 997, 1, 2, 3, 2994],
+    bits: 4,
+    data_length: 1491,
+    tail: [994, 1991, 995, 996, 1993, 2988, 2989, 3986, 2990],
+};
+
+impl<const D: usize, const T: usize> Pattern<D, T> {
+    // The place of bit n of what is sent.
+    fn place(&self, n: usize) -> usize
+        requires { (0 < D) × (0 < T) × (self.now.bits ≤ 4) × (n < 3000) }
+        ensures { result ≡ spec.place_by self.now.«data» self.now.bits self.now.data_length self.now.tail n }
+    {
+        if n < self.data_length {
+            n / D * self.bits + usize::from(self.data[n % D])
+        } else {
+            let t = n - self.data_length;
+            1994 * (t / T) + usize::from(self.tail[t % T])
+        }
     }
 }
 
@@ -74,9 +63,9 @@ fn place(rate: Rate, n: usize) -> usize
     ensures { (result ≡ spec.place rate n) × (result < 3988) }
 {
     match rate {
-        Rate::Half => place_half(n),
-        Rate::Third => place_third(n),
-        Rate::TwoThirds => place_two_thirds(n),
+        Rate::Half => HALF.place(n),
+        Rate::Third => THIRD.place(n),
+        Rate::TwoThirds => TWO_THIRDS.place(n),
     }
 }
 
@@ -96,8 +85,8 @@ pub fn places(mode: u8) -> [u16; 3000]
     let rate = modes::rate(mode);
     let rows = n / 4;
     let mut out = [0u16; 3000];
-    for i in 0..n {
-        out[i] = sent_place(rate, rows, i) as u16;
+    for (i, place) in out[..n].iter_mut().enumerate() {
+        *place = sent_place(rate, rows, i) as u16;
     }
     out
 }
@@ -143,8 +132,8 @@ pub fn own_places(mode: u8) -> [u16; 994]
     let rate = modes::rate(mode);
     let rows = modes::packet_bits(mode) / 4;
     let mut out = [0u16; 994];
-    for i in 0..994 {
-        out[i] = own_place(rate, rows, i) as u16;
+    for (i, place) in out.iter_mut().enumerate() {
+        *place = own_place(rate, rows, i) as u16;
     }
     out
 }
