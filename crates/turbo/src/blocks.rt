@@ -1,15 +1,13 @@
 // A block's 16 packets, coded or judged one after the other. A number that is no mode counts as 1.
 ghost use Rattle.std.specs.Prelude.{◌≡◌, ◌≤◌, ◌<◌, ◌*◌, length};
 ghost use Rattle.rules.specs.Bits.{row};
-ghost use Rattle.rules.specs.Outer as outerRule;
+ghost use Rattle.rules.specs.Outer.{marked};
 ghost use Rattle.rules.specs.Modes.{packet_bits};
 ghost use Rattle.rules.specs.Answers.{judgement_of};
 ghost use Rattle.laws.specs.Holds.{Holds};
-ghost use Rattle.patterns.specs.Places.{Places, OwnPlaces};
-ghost use Rattle.turbo.specs.Coded.{Addresses};
 ghost use Rattle.turbo.specs.Blocks.{coded_row, Weighed, WeighedTo};
 
-use super::{code_with, judge_with};
+use super::{Decoder, Encoder};
 use rules::Reason;
 
 // The lost mask, the reasons, and the block of what is accepted, with zeros for what is lost.
@@ -24,77 +22,46 @@ pub struct Verdicts {
 pub fn code_block(mode: u8, block: [u8; 1952]) -> [u8; 48000]
     ensures { Holds 0 48000 (coded_row mode (packet_bits mode * 16) block) result }
 {
-    let addresses = interleaver::addresses();
-    let places = patterns::places(mode);
+    let encoder = Encoder::new(mode);
     let n = modes::packet_bits(mode);
     let mut bits = [0u8; 48000];
     for p in 0..16 {
         let from = 122 * p;
         let at = n * p;
-        code_with(
-            &addresses,
-            &places,
-            mode,
-            &block[from..from + 122],
-            &mut bits[at..at + n],
-        );
+        encoder.code(&block[from..from + 122], &mut bits[at..at + n]);
     }
     bits
 }
 
-// Bit p of a mask.
-fn marked(marks: u16, p: usize) -> u16
-    requires { p < 16 }
-    ensures { result ≡ outerRule.marked marks p }
+// Packet p's judgement: a marked one is lost without a look at its bits.
+fn weigh(decoder: &Decoder, marks: u16, p: usize, v: &[u8]) -> Result<[u8; 122], Reason>
+    requires { (p < 16) × (packet_bits decoder.now.encoder.mode ≤ length v.now) }
+    ensures { Weighed decoder.now.encoder.mode (marked marks p) (row v.now) (judgement_of result) }
 {
-    (marks >> p) % 2
-}
-
-// One packet's judgement: a marked one is lost without a look at its bits.
-fn weigh(
-    addresses: &[u16],
-    places: &[u16],
-    own: &[u16],
-    mode: u8,
-    mark: u16,
-    v: &[u8],
-) -> Result<[u8; 122], Reason>
-    requires { Addresses addresses.now × Places mode places.now × OwnPlaces mode own.now × (packet_bits mode ≤ length v.now) }
-    ensures { Weighed mode mark (row v.now) (judgement_of result) }
-{
-    if mark == 1 {
+    if (marks >> p) % 2 == 1 {
         return Err(Reason::Marked);
     }
-    judge_with(addresses, places, own, mode, v)
+    decoder.judge(v)
 }
 
 // The judgements on the packets that have these decided bits, packet after packet; those past the mode's are unused.
 pub fn judge_block(mode: u8, marks: u16, bits: [u8; 48000]) -> Verdicts
     ensures { WeighedTo 16 mode marks (row bits) result.lost result.reasons result.block }
 {
-    let addresses = interleaver::addresses();
-    let places = patterns::places(mode);
-    let own = patterns::own_places(mode);
+    let decoder = Decoder::new(mode);
     let n = modes::packet_bits(mode);
     let mut lost = 0u16;
     let mut reasons = [0u8; 16];
     let mut block = [0u8; 1952];
     for p in 0..16 {
         let at = n * p;
-        match weigh(
-            &addresses,
-            &places,
-            &own,
-            mode,
-            marked(marks, p),
-            &bits[at..at + n],
-        ) {
+        match weigh(&decoder, marks, p, &bits[at..at + n]) {
             Ok(bytes) => {
                 let to = 122 * p;
                 block[to..to + 122].copy_from_slice(&bytes);
             }
             Err(reason) => {
-                lost += 1 << p;
+                lost |= 1 << p;
                 reasons[p] = reason.number();
             }
         }

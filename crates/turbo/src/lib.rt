@@ -1,12 +1,13 @@
 // One packet's coded bits, and the judgement on decided ones; a whole block's are in blocks.rt. A bit is a byte that is 0 or 1.
 #![tactic(auto)]
 
-ghost use Rattle.std.specs.Prelude.{◌≡◌, ◌&&◌, ℕ, ◌+◌, ◌≤◌, ◌<◌, length};
+ghost use Rattle.std.specs.Prelude.{◌≡◌, ◌+◌, ◌≤◌, ◌<◌, length};
 ghost use Rattle.rules.specs.Bits.{row};
 ghost use Rattle.rules.specs.Packet.{packet_bit};
 ghost use Rattle.rules.specs.Turbo as rule;
 ghost use Rattle.rules.specs.Modes.{packet_bits};
 ghost use Rattle.rules.specs.Slots.{second, coded};
+ghost use Rattle.rules.specs.Block.{decided_data};
 ghost use Rattle.rules.specs.Answers.{judgement_of};
 ghost use Rattle.laws.specs.Holds.{Holds};
 ghost use Rattle.laws.specs.Rows.{Bits};
@@ -19,12 +20,6 @@ mod blocks;
 
 pub use blocks::{Verdicts, code_block, judge_block};
 use rules::{CodingError, Reason};
-
-fn wide(x: u16) -> usize
-    ensures { (result ≡ x) × (result < 65536) }
-{
-    x as usize
-}
 
 // What the feedback of register s adds to the bit that comes in.
 fn feedback(s: u8) -> u8
@@ -98,13 +93,11 @@ fn ended(all: [u8; 3988], base: usize, register: u8) -> [u8; 3988]
 {
     let mut s = all;
     let mut state = register;
-    let mut k = 0;
-    while k < 3 {
+    for k in 0..3 {
         let p = last_period(state);
         s[base + 994 + k] = p.x;
         s[base + 1991 + k] = p.y0;
         state = p.register;
-        k = k + 1;
     }
     s
 }
@@ -118,63 +111,16 @@ fn encoded(all: [u8; 3988]) -> [u8; 3988]
     let mut s = all;
     let mut first = 0u8;
     let mut second = 0u8;
-    let mut i = 0;
-    while i < 994 {
+    for i in 0..994 {
         let p = data_period(s[i], first);
         let q = data_period(s[1994 + i], second);
         s[997 + i] = p.y0;
         s[2991 + i] = q.y0;
         first = p.register;
         second = q.register;
-        i = i + 1;
     }
     let s = ended(s, 0, first);
     ended(s, 1994, second)
-}
-
-// The 994 bits that each encoder reads, at the beginning of X and of X'.
-fn entered(addresses: &[u16], x: [u8; 994]) -> [u8; 3988]
-    requires { Addresses addresses.now }
-    ensures { Holds 0 3988 (with_data (row x)) result }
-{
-    let mut s = [0u8; 3988];
-    let mut i = 0;
-    while i < 994 {
-        s[i] = x[i];
-        s[1994 + i] = x[wide(addresses[i])];
-        i = i + 1;
-    }
-    s
-}
-
-// The four streams of 994 bits; the addresses are the interleaver's.
-fn streams_of(addresses: &[u16], x: [u8; 994]) -> [u8; 3988]
-    requires { Addresses addresses.now × Bits x }
-    ensures { Holds 0 3988 (stream (row x) (second (row x))) result }
-{
-    encoded(entered(addresses, x))
-}
-
-// What is sent, taken from the streams.
-fn send(places: &[u16], mode: u8, all: [u8; 3988], out: &mut [u8])
-    requires { Places mode places.now × (length out.old ≡ packet_bits mode) }
-    ensures { Holds 0 (packet_bits mode) (sent_from mode (row all)) out.new }
-{
-    let n = modes::packet_bits(mode);
-    let mut i = 0;
-    while i < n {
-        out[i] = all[wide(places[i])];
-        i = i + 1;
-    }
-}
-
-fn copy(from: &[u8], to: &mut [u8])
-    requires { length from.now ≡ length to.old }
-    ensures { to.new ≡ from.now }
-{
-    for i in 0..from.len() {
-        to[i] = from[i];
-    }
 }
 
 // The bits that enter the encoders, without the six tail zeros.
@@ -182,7 +128,7 @@ fn without_tail(bits: [u8; 1000]) -> [u8; 994]
     ensures { Holds 0 994 (row bits) result }
 {
     let mut x = [0u8; 994];
-    copy(&bits[..994], &mut x);
+    x.copy_from_slice(&bits[..994]);
     x
 }
 
@@ -192,17 +138,81 @@ fn bits_of(data: &[u8]) -> [u8; 1000]
     ensures { Holds 0 1000 (packet_bit (row «data».now)) result }
 {
     let mut bytes = [0u8; 122];
-    copy(data, &mut bytes);
+    bytes.copy_from_slice(data);
     packet::bits_of(bytes)
 }
 
-// One packet of 122 bytes, coded and interleaved; the addresses are the interleaver's, and the places the mode's.
-fn code_with(addresses: &[u16], places: &[u16], mode: u8, data: &[u8], out: &mut [u8])
-    requires { Addresses addresses.now × Places mode places.now × (length «data».now ≡ 122) × (length out.old ≡ packet_bits mode) }
-    ensures { Holds 0 (packet_bits mode) (coded mode (packet_bit (row «data».now))) out.new }
-{
-    let x = without_tail(bits_of(data));
-    send(places, mode, streams_of(addresses, x), out);
+// What codes a mode's packets: the interleaver's addresses, and the places of what is sent. They are the same for every packet.
+#[derive(Drop)]
+struct Encoder {
+    mode: u8,
+    addresses: [u16; 994],
+    places: [u16; 3000],
+    ghost interleaves: { Addresses addresses },
+    ghost placed: { Places mode places },
+}
+
+impl Encoder {
+    fn new(mode: u8) -> Encoder
+        ensures { result.mode ≡ mode }
+    {
+        Encoder {
+            mode,
+            addresses: interleaver::addresses(),
+            places: patterns::places(mode),
+        }
+    }
+
+    // The 994 bits that each encoder reads, at the beginning of X and of X'.
+    fn entered(&self, x: [u8; 994]) -> [u8; 3988]
+        ensures { Holds 0 3988 (with_data (row x)) result }
+    {
+        let mut s = [0u8; 3988];
+        for i in 0..994 {
+            s[i] = x[i];
+            s[1994 + i] = x[usize::from(self.addresses[i])];
+        }
+        s
+    }
+
+    // The four streams of 994 bits.
+    fn streams(&self, x: [u8; 994]) -> [u8; 3988]
+        requires { Bits x }
+        ensures { Holds 0 3988 (stream (row x) (second (row x))) result }
+    {
+        encoded(self.entered(x))
+    }
+
+    // What is sent, taken from the streams.
+    fn send(&self, all: [u8; 3988], out: &mut [u8])
+        requires { length out.old ≡ packet_bits self.now.mode }
+        ensures { Holds 0 (packet_bits self.now.mode) (sent_from self.now.mode (row all)) out.new }
+    {
+        for (i, bit) in out.iter_mut().enumerate() {
+            *bit = all[usize::from(self.places[i])];
+        }
+    }
+
+    // One packet of 122 bytes, coded and interleaved.
+    fn code(&self, data: &[u8], out: &mut [u8])
+        requires { (length «data».now ≡ 122) × (length out.old ≡ packet_bits self.now.mode) }
+        ensures { Holds 0 (packet_bits self.now.mode) (coded self.now.mode (packet_bit (row «data».now))) out.new }
+    {
+        let x = without_tail(bits_of(data));
+        self.send(self.streams(x), out);
+    }
+
+    // Whether the decided bits are those that the streams would have sent.
+    fn sends(&self, all: [u8; 3988], v: &[u8]) -> bool
+        requires { packet_bits self.now.mode ≤ length v.now }
+        ensures { result ≡ same_bits (packet_bits self.now.mode) (row v.now) (sent_from self.now.mode (row all)) }
+    {
+        let mut same = true;
+        for i in 0..modes::packet_bits(self.mode) {
+            same &= v[i] == all[usize::from(self.places[i])];
+        }
+        same
+    }
 }
 
 // One packet of 122 bytes, coded and interleaved.
@@ -215,94 +225,76 @@ pub fn code(mode: u8, data: &[u8], out: &mut [u8]) -> Result<(), CodingError>
     if data.len() != 122 || out.len() != modes::packet_bits(mode) {
         return Err(CodingError::WrongLength);
     }
-    let addresses = interleaver::addresses();
-    let places = patterns::places(mode);
-    code_with(&addresses, &places, mode, data, out);
+    Encoder::new(mode).code(data, out);
     Ok(())
 }
 
-fn both(a: bool, b: bool) -> bool
-    ensures { result ≡ (a && b) }
+// Whether none of the decided bits is doubtful. Each is looked at, as many at once as the machine can; `all` would stop at the first, one after the other.
+fn plain(v: &[u8]) -> bool
+    ensures { result ≡ plain_bits (length v.now) (row v.now) }
 {
-    a && b
+    let mut plain = true;
+    for bit in v {
+        plain &= *bit < 2;
+    }
+    plain
 }
 
-// Whether none of the first n decided bits is doubtful.
-fn plain(v: &[u8], n: usize) -> bool
-    requires { n ≤ length v.now }
-    ensures { result ≡ plain_bits n (row v.now) }
-{
-    let mut ok = true;
-    let mut i = 0;
-    while i < n {
-        ok = both(ok, v[i] < 2);
-        i = i + 1;
-    }
-    ok
+// What judges a mode's packets: their encoder, and as which bits a packet's own are sent.
+#[derive(Drop)]
+struct Decoder {
+    encoder: Encoder,
+    own: [u16; 994],
+    ghost placed: { OwnPlaces encoder.mode own },
 }
 
-// Whether the decided bits are those that the streams would have sent.
-fn same(places: &[u16], mode: u8, v: &[u8], all: [u8; 3988]) -> bool
-    requires { Places mode places.now × (packet_bits mode ≤ length v.now) }
-    ensures { result ≡ same_bits (packet_bits mode) (row v.now) (sent_from mode (row all)) }
-{
-    let n = modes::packet_bits(mode);
-    let mut ok = true;
-    let mut i = 0;
-    while i < n {
-        ok = both(ok, v[i] == all[wide(places[i])]);
-        i = i + 1;
+impl Decoder {
+    fn new(mode: u8) -> Decoder
+        ensures { result.encoder.mode ≡ mode }
+    {
+        Decoder {
+            encoder: Encoder::new(mode),
+            own: patterns::own_places(mode),
+        }
     }
-    ok
-}
 
-// The decided bits at these 994 places.
-fn decided(own: &[u16], v: &[u8]) -> [u8; 994]
-    requires { (length own.now ≡ 994) × ((i : ℕ) → i < 994 → row own.now i < length v.now) }
-    ensures { Holds 0 994 (λ i. row v.now (row own.now i)) result }
-{
-    let mut x = [0u8; 994];
-    let mut i = 0;
-    while i < 994 {
-        x[i] = v[wide(own[i])];
-        i = i + 1;
+    // The decided bits that are the packet's own.
+    fn decided(&self, v: &[u8]) -> [u8; 994]
+        requires { packet_bits self.now.encoder.mode ≤ length v.now }
+        ensures { Holds 0 994 (decided_data self.now.encoder.mode (row v.now)) result }
+    {
+        let mut x = [0u8; 994];
+        for (i, bit) in x.iter_mut().enumerate() {
+            *bit = v[usize::from(self.own[i])];
+        }
+        x
     }
-    x
-}
 
-// Judges the first decided bits, as many as a packet of the mode has; the addresses are the interleaver's, and both tables of places the mode's.
-fn judge_with(
-    addresses: &[u16],
-    places: &[u16],
-    own: &[u16],
-    mode: u8,
-    v: &[u8],
-) -> Result<[u8; 122], Reason>
-    requires { Addresses addresses.now × Places mode places.now × OwnPlaces mode own.now × (packet_bits mode ≤ length v.now) }
-    ensures { JudgingRule mode (row v.now) (judgement_of result) }
-{
-    if !plain(v, modes::packet_bits(mode)) {
-        return Err(Reason::Doubtful);
+    // Judges the first decided bits, as many as a packet of the mode has.
+    fn judge(&self, v: &[u8]) -> Result<[u8; 122], Reason>
+        requires { packet_bits self.now.encoder.mode ≤ length v.now }
+        ensures { JudgingRule self.now.encoder.mode (row v.now) (judgement_of result) }
+    {
+        if !plain(&v[..modes::packet_bits(self.encoder.mode)]) {
+            return Err(Reason::Doubtful);
+        }
+        let x = self.decided(v);
+        if !packet::check_right(x) {
+            return Err(Reason::CheckWord);
+        }
+        if !packet::reserved_right(x) {
+            return Err(Reason::Reserved);
+        }
+        if !self.encoder.sends(self.encoder.streams(x), v) {
+            return Err(Reason::Coded);
+        }
+        Ok(packet::bytes_of(x))
     }
-    let x = decided(own, v);
-    if !packet::check_right(x) {
-        return Err(Reason::CheckWord);
-    }
-    if !packet::reserved_right(x) {
-        return Err(Reason::Reserved);
-    }
-    if !same(places, mode, v, streams_of(addresses, x)) {
-        return Err(Reason::Coded);
-    }
-    Ok(packet::bytes_of(x))
 }
 
 // Judges one packet's decided bits; those past the mode's are unused. A number that is no mode counts as 1.
 pub fn judge(mode: u8, v: [u8; 3000]) -> Result<[u8; 122], Reason>
     ensures { JudgingRule mode (row v) (judgement_of result) }
 {
-    let addresses = interleaver::addresses();
-    let places = patterns::places(mode);
-    let own = patterns::own_places(mode);
-    judge_with(&addresses, &places, &own, mode, &v)
+    Decoder::new(mode).judge(&v)
 }

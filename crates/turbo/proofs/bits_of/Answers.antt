@@ -8,4 +8,4 @@ use Rattle.laws.specs.Holds.{Holds}
 use Rattle.turbo.proofs.bits_of.Goals as goal
 
 pub returns : goal.returns
-returns c = subst (λ (l : List ℕ). Holds 0 1000 (packet_bit (row l)) c.bits_of.result) c.copy.ensures c.bits_of.ensures
+returns c = subst (λ (l : List ℕ). Holds 0 1000 (packet_bit (row l)) c.bits_of.result) c.copy_from_slice.ensures.after c.bits_of.ensures

@@ -1,6 +1,6 @@
 -- `encoded` fills in the four streams: before turn i, i parities of both encoders and their registers' states are there.
 use mathlib.Core.Path.{◌≡◌}
-use Prim.Native.Nat.{ℕ, ◌-◌, ◌<◌, ◌≤◌}
+use Prim.Native.Nat.{ℕ, ◌<◌, ◌≤◌}
 use Rattle.rules.specs.Bits.{row}
 use Rattle.rules.specs.Turbo.{state, y0}
 use Rattle.laws.specs.Holds.{Holds}
@@ -19,6 +19,3 @@ invariant-loop-i l =
     × (l.first ≡ state (row l.initial.s) l.i)
     × (l.second ≡ state (from (row l.initial.s) 1994) l.i)
     × Holds 0 3988 (walked l.i (row l.initial.s)) l.s
-
-abbrev pub decreases-loop-i : goal.decreases-loop-i
-decreases-loop-i l = 994 - l.i

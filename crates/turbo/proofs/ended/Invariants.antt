@@ -1,6 +1,6 @@
 -- `ended` writes the ends of two streams: before turn k, k elements of each.
 use mathlib.Core.Path.{◌≡◌}
-use Prim.Native.Nat.{ℕ, ◌+◌, ◌-◌, ◌<◌, ◌≤◌}
+use Prim.Native.Nat.{ℕ, ◌+◌, ◌<◌, ◌≤◌}
 use Rattle.rules.specs.Bits.{row}
 use Rattle.rules.specs.Turbo.{feedback, parity_of}
 use Rattle.laws.specs.Holds.{Holds}
@@ -19,6 +19,3 @@ invariant-loop-k l =
     × (l.state < 8)
     × (l.state ≡ after_zeros l.register l.k)
     × Holds 0 3988 (within (l.base + 994) l.k (last_x l.register) (within (l.base + 1991) l.k (last_y0 l.register) (row l.initial.s))) l.s
-
-abbrev pub decreases-loop-k : goal.decreases-loop-k
-decreases-loop-k l = 3 - l.k

@@ -14,12 +14,12 @@ front c =
     let long : length c.args.bits ≡ 1000 = search rules in
     record { long = length-take-le 994 c.args.bits (omega arith); each = λ k lt. get_or-take 994 c.args.bits k 0 lt }
 
-pub slice_bounds-copy-end : goal.slice_bounds-copy-end
-slice_bounds-copy-end c = sym (front (goal.at.slice_bounds-copy-end c).Start).long
+pub slice_bounds-copy_from_slice-end-2 : goal.slice_bounds-copy_from_slice-end-2
+slice_bounds-copy_from_slice-end-2 c = sym (front (goal.at.slice_bounds-copy_from_slice-end-2 c).Start).long
 
-pub copy-requires : goal.copy-requires
-copy-requires c = (front (goal.at.copy-requires c).Start).long
+pub copy_from_slice-requires : goal.copy_from_slice-requires
+copy_from_slice-requires c = sym (front (goal.at.copy_from_slice-requires c).Start).long
 
 pub returns : goal.returns
 returns c =
-    subst (Holds 0 994 (row c.args.bits)) (sym c.copy.ensures) (front (goal.at.returns c).Start)
+    subst (Holds 0 994 (row c.args.bits)) (sym c.copy_from_slice.ensures.after) (front (goal.at.returns c).Start)

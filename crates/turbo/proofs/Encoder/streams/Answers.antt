@@ -6,11 +6,11 @@ use Rattle.laws.specs.Holds.{holds_as}
 use Rattle.laws.specs.Filled.{holds-bits}
 use Rattle.turbo.specs.Streams.{stream}
 use Rattle.turbo.proofs.Filling.{data-bit, data-streams}
-use Rattle.turbo.proofs.streams_of.Goals as goal
+use Rattle.turbo.proofs.Encoder.streams.Goals as goal
 
 pub encoded-requires : goal.encoded-requires
 encoded-requires c =
-    holds-bits 3988 _ c.entered.result (λ k lt. data-bit (row c.args.x) c.requires.1 k) c.entered.ensures
+    holds-bits 3988 _ c.entered.result (λ k lt. data-bit (row c.args.x) c.requires k) c.entered.ensures
 
 pub returns : goal.returns
 returns c =

@@ -1,13 +1,14 @@
 -- `code_block` meets its contract. The loop's invariant: the packets before p are coded.
-use mathlib.Core.Path.{◌≡◌, refl, ap₂, subst, ◌∙◌}
+use mathlib.Core.Path.{◌≡◌, refl, ap, ap₂, subst, ◌∙◌}
 use lib.ListN.{length, length-take, length-drop}
 use Prim.Native.Nat.{ℕ, ◌+◌, ◌*◌, ◌≤◌}
 use native.Mathlib.Omega.{arith}
 use Rattle.laws.specs.Holds.{Holds}
+use Rattle.rules.specs.Modes.{packet_bits}
 use Rattle.laws.specs.Parts.{part-within, part-long}
 use Rattle.turbo.specs.Blocks.{coded_row}
 use Rattle.turbo.proofs.Coding.{coded_none, coded-turn}
-use Rattle.turbo.proofs.blocks.code_block.Goals.{After-packet_bits-n, After-places-places, At-loop-p, In-loop-p}
+use Rattle.turbo.proofs.blocks.code_block.Goals.{In-loop-p}
 use Rattle.turbo.proofs.blocks.code_block.Goals as goal
 
 -- the packet's room is within the bits
@@ -29,24 +30,22 @@ overflow_mul-at c = omega (arith, room (goal.at.overflow_mul-at c).In-loop-p)
 pub overflow_add-at : goal.overflow_add-at
 overflow_add-at c = omega (arith, room (goal.at.overflow_add-at c).In-loop-p)
 
-pub code_with-requires : goal.code_with-requires
-code_with-requires c =
+pub code-requires : goal.code-requires
+code-requires c =
     let l = c.loop-p in
     let n : ℕ = c.packet_bits-n.result in (
-      c.addresses-addresses.ensures,
-      c.places-places.ensures,
-      simp (length-take, length-drop) (omega (arith, bytes (goal.at.code_with-requires c).In-loop-p)),
-      part-long (n * l.p) _ l.bits (omega arith) (omega (arith, room (goal.at.code_with-requires c).In-loop-p, l.invariant.1.long)) ∙ omega arith,
+      simp (length-take, length-drop) (omega (arith, bytes (goal.at.code-requires c).In-loop-p)),
+      part-long (n * l.p) _ l.bits (omega arith) (omega (arith, room (goal.at.code-requires c).In-loop-p, l.invariant.1.long)) ∙ omega (arith, ap packet_bits c.new-encoder.ensures),
     )
 
 pub loop-p-preserved : goal.loop-p-preserved
 loop-p-preserved c =
     let l = c.loop-p in
     let a = c.args in
-    let r = c.code_with in (
+    let r = rw c.new-encoder.ensures at c.code.ensures in (
       omega arith,
       coded-turn a.mode c.packet_bits-n.result c.packet_bits-n.ensures.0 a.block l.bits _ l.p _ _
-          (bytes (goal.at.loop-p-preserved c).In-loop-p) (omega arith) c.loop-p-test.true refl refl r.ensures l.invariant.1,
+          (bytes (goal.at.loop-p-preserved c).In-loop-p) (omega arith) c.loop-p-test.true refl refl r l.invariant.1,
     )
 
 pub returns : goal.returns

@@ -1,9 +1,10 @@
 -- The loop's invariant: the first p packets are judged.
 use mathlib.Core.Path.{◌≡◌, refl, ◌∙◌, ap}
-use Prim.Native.Nat.{ℕ, suc, ◌+◌, ◌*◌, ◌^◌, ◌≤◌, ◌<◌}
+use Prim.Native.Nat.{ℕ, suc, ◌+◌, ◌*◌, ◌%◌, ◌^◌, ◌≤◌, ◌<◌}
 use native.Mathlib.Omega.{arith}
 use mathlib.Core.List.{List}
 use lib.Pow.{pow_mono}
+use lib.Bits.{bit_or, or_shifted_r}
 use lib.ListN.{length}
 use borrow.Author.Rules.{rules}
 use Rattle.rules.specs.Bits.{row}
@@ -11,14 +12,14 @@ use Rattle.rules.specs.Modes.{packet_bits}
 use Rattle.rules.specs.Block.{packet_part}
 use Rattle.laws.specs.Parts.{part, part-within, part-long, part_at}
 use Rattle.turbo.proofs.Weighing.{weighed-none, weighed-lt, weighed-kept, weighed-lost}
-use Rattle.turbo.proofs.blocks.judge_block.Goals.{in-Ok, in-Err, After-own_places-own, After-packet_bits-n, At-loop-p, In-loop-p, Start}
+use Rattle.turbo.proofs.blocks.judge_block.Goals.{in-Ok, in-Err, In-loop-p}
 use Rattle.turbo.proofs.blocks.judge_block.Goals as goal
 
 -- a packet's bits are within the block's
 within : (n p : ℕ) → n ≤ 3000 → p < 16 → n * p + n ≤ 48000
 within n p h l = omega (arith, part-within n p 16 l)
 
-bits_long : (c : Start) → length c.args.bits ≡ 48000
+bits_long : (c : In-loop-p) → length c.args.bits ≡ 48000
 bits_long c = search rules
 
 place : (c : In-loop-p)
@@ -27,7 +28,7 @@ place : (c : In-loop-p)
 place c =
     omega (
       arith,
-      bits_long c.before.before.before.before.before.before,
+      bits_long c,
       within c.packet_bits-n.result c.loop-p.p (omega arith) (omega arith),
     )
 
@@ -61,22 +62,18 @@ weigh-requires c =
     let n = c.packet_bits-n in
     let at : ℕ = n.result * c.loop-p.p in
     let s = c in (
-      c.addresses-addresses.ensures,
-      c.places-places.ensures,
-      c.own_places-own.ensures,
-      omega (arith, part-long at (at + n.result) s.args.bits (omega arith) (place (goal.at.weigh-requires c).In-loop-p)),
+      omega arith,
+      omega (arith, ap packet_bits c.new-decoder.ensures, part-long at (at + n.result) s.args.bits (omega arith) (place (goal.at.weigh-requires c).In-loop-p)),
     )
 
--- there is room for the packet's bit
-lost-room : (c : In-loop-p) → c.loop-p.lost + 2 ^ c.loop-p.p < 65536
-lost-room c =
+-- the packet's bit stands above those of the packets before it
+bit-added : (c : In-loop-p) → bit_or c.loop-p.lost (1 * 2 ^ c.loop-p.p % 65536) ≡ c.loop-p.lost + 2 ^ c.loop-p.p
+bit-added c =
     let p = c.loop-p.p in
     let a = c.args in
     let top : 2 ^ suc p ≤ 65536 = pow_mono {j = 16} (omega arith) in
-    omega (arith, weighed-lt p a.mode a.marks (row a.bits) c.loop-p.invariant.1)
-
-pub overflow_add-lost : goal.overflow_add-lost
-overflow_add-lost c = omega (arith, lost-room (goal.at.overflow_add-lost c).In-loop-p)
+    let whole : 1 * 2 ^ p % 65536 ≡ 1 * 2 ^ p = omega arith in
+    rw whole (or_shifted_r 1 p c.loop-p.lost (weighed-lt p a.mode a.marks (row a.bits) c.loop-p.invariant.1) ∙ omega arith)
 
 pub loop-p-preserved : goal.loop-p-preserved
 loop-p-preserved c =
@@ -91,13 +88,13 @@ loop-p-preserved c =
         omega arith,
         rw (w.lost-is, w.reasons-is, w.block-is)
             (weighed-kept a.mode a.marks l.p (row a.bits) (row bits) c.loop-p-test.true (own i) (122 * l.p + 122) w.in-Ok.bytes w.copy_from_slice.new.self
-            (rw c.marked.ensures at w.in-Ok.ensures) refl w.copy_from_slice.ensures.after l.invariant.1),
+            (rw c.new-decoder.ensures at w.in-Ok.ensures) refl w.copy_from_slice.ensures.after l.invariant.1),
       )
       | in-Err w ↦ (
         omega arith,
         rw (w.lost-is, w.reasons-is, w.block-is)
             (weighed-lost a.mode a.marks l.p (row a.bits) (row bits) c.loop-p-test.true (own i) w.in-Err.reason w.number.result _ w.number.ensures
-            (rw c.marked.ensures at w.in-Err.ensures) (omega (arith, lost-room i)) l.invariant.1),
+            (rw c.new-decoder.ensures at w.in-Err.ensures) (bit-added i) l.invariant.1),
       )
     ]
 

@@ -8,6 +8,7 @@ use native.Mathlib.Omega.{arith}
 use lib.ListN.{length, replicate, length-replicate, get_or-replicate}
 use borrow.Author.Tests.{eq-eqb, ne_eqb}
 use Rattle.rules.specs.Bits.{pick, row}
+use Rattle.rules.specs.Outer.{marked}
 use Rattle.rules.specs.Block.{reason, verdict, decided_data, byte_of}
 use Rattle.rules.specs.Answers.{Judgement}
 use Rattle.laws.specs.Holds.{Holds, holds_as}
@@ -48,13 +49,13 @@ module _ (m mark : ℕ) (v : ℕ → ℕ) where
       go (yes e) = bytes-kept a.bytes (sym is ∙ e) (h.accepted e)
       go (no z) = bytes-lost a.bytes (h.refused z) (λ e. z (is ∙ e))
 
-pub returns-then-mark-eq1 : goal.returns-then-mark-eq1
-returns-then-mark-eq1 c =
+pub returns-then-marks-p-eq1 : goal.returns-then-marks-p-eq1
+returns-then-marks-p-eq1 c =
     let a = c.args in
-    let is = marked-reason a.mode a.mark (row a.v.now) c.if-mark-eq1.true in
-    record { reason_is = sym is; bytes_are = bytes-lost a.mode a.mark (row a.v.now) _ refl (λ e. omega arith) }
+    let is = marked-reason a.decoder.now.encoder.mode (marked a.marks a.p) (row a.v.now) c.if-marks-p-eq1.true in
+    record { reason_is = sym is; bytes_are = bytes-lost a.decoder.now.encoder.mode (marked a.marks a.p) (row a.v.now) _ refl (λ e. omega arith) }
 
 pub returns : goal.returns
 returns c =
     let a = c.args in
-    weighed a.mode a.mark (row a.v.now) _ c.if-mark-eq1.false c.judge_with.ensures
+    weighed a.decoder.now.encoder.mode (marked a.marks a.p) (row a.v.now) _ c.if-marks-p-eq1.false c.judge.ensures
