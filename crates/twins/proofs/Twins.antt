@@ -2,10 +2,8 @@
 use mathlib.Core.Path.{◌≡◌, ap, ◌∙◌}
 use mathlib.Core.Bool.{Bool, true, false, ◌&&◌}
 use mathlib.Core.List.{List}
-use Prim.Native.Nat.{ℕ, ◌+◌, ◌-◌, ◌%◌, ◌<◌, ◌≤◌}
-use native.Mathlib.Decide.{ℕ_discrete}
-use native.Mathlib.Omega.{arith}
-use borrow.Author.Tests.{eq-eqb, ne_eqb, lt-ltb, le-ltb}
+use Prim.Native.Nat.{ℕ, ◌<◌, ◌≤◌}
+use borrow.Author.Tests.{eq-eqb, lt-ltb}
 use Rattle.rules.specs.Profile.{alike, are_twins, earliest, repeats, first_repeat}
 use Rattle.rules.specs.Slots.{symbol_of}
 use Rattle.laws.specs.First.{first-is}
@@ -18,30 +16,9 @@ module _ (masks seeds : List ℕ) where
     pub within : u ≤ t
     pub none : (i : ℕ) → i < u → are_twins masks seeds i t ≡ false
 
-  -- slots of earlier symbols are no twins of it
-  pub look_start : (t : ℕ) → Looking t (t - t % 7)
-  look_start t =
-      record {
-        here = omega arith;
-        within = omega arith;
-        none = λ i lt. ap (λ (b : Bool). b && alike masks seeds i t) (ne_eqb (symbol_of i) (symbol_of t) (λ e. omega arith));
-      }
-
   module _ {t u : ℕ} (h : Looking t u) where
     as-alike : are_twins masks seeds u t ≡ alike masks seeds u t
     as-alike = ap (λ (b : Bool). b && alike masks seeds u t) (eq-eqb (symbol_of u) (symbol_of t) h.here)
-
-    pub look_more : u < t → alike masks seeds u t ≡ false → Looking t (u + 1)
-    look_more lt unlike =
-        record {
-          here = omega (arith, h.here);
-          within = omega arith;
-          none = λ i below. at i below (ℕ_discrete i u);
-        }
-      where
-        at : (i : ℕ) → i < u + 1 → Dec (i ≡ u) → are_twins masks seeds i t ≡ false
-        at i below (yes e) = ap (λ (j : ℕ). are_twins masks seeds j t) e ∙ as-alike ∙ unlike
-        at i below (no ne) = h.none i (omega arith)
 
     pub look_found : (u < t → alike masks seeds u t ≡ true) → u ≡ earliest masks seeds t
     look_found like = first-is (record { within = h.within; before = h.none; passes = λ lt. as-alike ∙ like lt })
@@ -52,17 +29,7 @@ module _ (masks seeds : List ℕ) where
     pub within : t ≤ n
     pub none : (i : ℕ) → i < t → repeats masks seeds i ≡ false
 
-  pub search_start : (n : ℕ) → Searching n 0
-  search_start n = record { within = omega arith; none = λ i lt. absurd (omega arith) }
-
   module _ {n t : ℕ} (h : Searching n t) where
-    pub search_more : t < n → ¬ (earliest masks seeds t < t) → Searching n (t + 1)
-    search_more lt other = record { within = omega arith; none = λ i below. at i below (ℕ_discrete i t) }
-      where
-        at : (i : ℕ) → i < t + 1 → Dec (i ≡ t) → repeats masks seeds i ≡ false
-        at i below (yes e) = ap (repeats masks seeds) e ∙ le-ltb (earliest masks seeds t) t (omega arith)
-        at i below (no ne) = h.none i (omega arith)
-
     pub search_found : (t < n → earliest masks seeds t < t) → t ≡ first_repeat n masks seeds
     unfolding first_repeat
     search_found found =

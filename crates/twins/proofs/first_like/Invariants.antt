@@ -1,10 +1,6 @@
 -- At the loop's head no slot before u is t's twin, and u is of t's symbol.
-use Prim.Native.Nat.{◌-◌}
 use Rattle.twins.proofs.Twins.{Looking}
 use Rattle.twins.proofs.first_like.Given as goal
 
 abbrev pub invariant-loop-u : goal.invariant-loop-u
 invariant-loop-u l = Looking l.masks l.seeds l.t l.u
-
-abbrev pub decreases-loop-u : goal.decreases-loop-u
-decreases-loop-u l = l.t - l.u
