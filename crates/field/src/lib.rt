@@ -40,7 +40,7 @@ impl Element {
         Element((one % 256) as u8)
     }
 
-    // By squares, so that the time goes by the digits of k.
+    // By squares, so that the time goes by the digits of k: what is left of k is halved, and no list is walked.
     pub fn power(self, k: u32) -> Element
         ensures { result.0 ≡ rule.power self.0 k }
     {
@@ -65,6 +65,7 @@ impl Element {
     }
 }
 
+// + is the sum, and * the product.
 impl Add for Element {
     type Output = Element;
 
