@@ -61,10 +61,6 @@ place-lt {i} h = rw (sym (order-at i h)) (place-below i h)
 pub point-lt : {i : ℕ} → i < 500 → point_at i < 500
 point-lt {i} h = rw (sym (back_at i h)) (point-below i h)
 
--- what is looked up in a table of such an order
-pub looked : (f : ℕ → ℕ) (l : List ℕ) (i : ℕ) → Holds 0 500 f l → i < 500 → f i < 500 → (get_or l i 0 ≡ f i) × (get_or l i 0 < 500)
-looked f l i t h inside = (t.each i h, rw (t.each i h) inside)
-
 -- ---- in each symbol the slots 1 to 7 have an interlace each
 
 pub interlace-lt : (y k : ℕ) → 1 ≤ k → k ≤ 7 → interlace_of y k < 8

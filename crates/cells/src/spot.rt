@@ -20,15 +20,10 @@ impl Spot {
         if c < 48 || c == 2048 || c > 4048 {
             return None;
         }
-        if c % 8 == 0 && c > 2048 {
-            return Some(Spot {
-                interlace: 0,
-                place: (c - 56) / 8,
-            });
-        }
+        let first = if c % 8 == 0 && c > 2048 { 56 } else { 48 };
         Some(Spot {
             interlace: c % 8,
-            place: (c - 48) / 8,
+            place: (c - first) / 8,
         })
     }
 }

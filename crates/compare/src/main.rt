@@ -128,7 +128,8 @@ Standard output   a line for each cell that differs, in rising order: its symbol
 Standard error    a refusal, its number and what it means: 18 A and B are not of one length, 7 they are not whole symbols.
                   Trouble: what can't be read or written.
 
-bin/compare ends with 0 when no cell differs, 1 when one does, 2 when it refused and for a wrong use or trouble.";
+bin/compare ends with 0 when no cell differs, 1 when one does, 2 when it refused and for a wrong use or trouble.
+";
 
 // What is in the way was said: bin/ gives the exit status by it.
 fn main(rt: HostRuntime) {

@@ -167,7 +167,8 @@ impl Program<'_> {
     }
 }
 
-// Reads until the buffer is full, the input ends or can't be read, and answers how many bytes it put at the start of the buffer.
+// Reads until the buffer is full, the input ends or can't be read, and answers how many bytes it put at the start of the buffer. The loop stays, since
+// std's read_exact does not say how many came.
 pub fn read_full(from: &mut impl Read, room: &mut [u8]) -> usize
     ensures { result ≤ length room.new }
 {

@@ -14,7 +14,8 @@ pub(crate) fn lost_at(lost: u16, p: usize) -> bool
     (lost >> p) % 2 == 1
 }
 
-// Column j, with zero for the lost bytes.
+// Column j, with zero for the lost bytes. The loop counts packets: p is a place in the mask, in the block and in the column. That j is below 122 stands in
+// three contracts, since a type for it would be made and opened in the same turn of one loop.
 pub(crate) fn kept(lost: u16, block: &[u8; 1952], j: usize) -> [u8; 16]
     requires { j < 122 }
     ensures { Holds 0 16 (solve.kept lost (column block.now j)) result }
@@ -28,7 +29,7 @@ pub(crate) fn kept(lost: u16, block: &[u8; 1952], j: usize) -> [u8; 16]
     c
 }
 
-// Writes column j.
+// Writes column j; p is a place in the column and in the block.
 pub(crate) fn put(c: [u8; 16], j: usize, block: &mut [u8; 1952])
     requires { j < 122 }
     ensures { Put (row c) j block.old block.new }

@@ -56,7 +56,7 @@ impl Parity {
         if i < self.r { s[i] } else { 0 }
     }
 
-    // The register s, of which r bytes are in use, after the byte d.
+    // The register s, of which r bytes are in use, after the byte d. Three lists go by one position, one of them by the next.
     fn step(self, s: [u8; 8], d: u8) -> [u8; 8]
         ensures { Starts self.r (divided self.r (row s) d) result }
     {
@@ -75,6 +75,7 @@ impl Parity {
     {
         let mut s = [0u8; 8];
         for d in &c[..16 - self.r] {
+            // A name of its own: the checker lays no call's array in a local that is lent.
             let next = self.step(s, *d);
             s = next;
         }

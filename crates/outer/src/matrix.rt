@@ -88,17 +88,16 @@ impl Missing {
     fn entries(self, parity: Parity) -> [u8; 8]
         ensures { Starts parity.r (entry parity.r self.lost self.p) result }
     {
-        let b = self.basis();
         let d = self.scale(parity);
-        let mut e = [0u8; 8];
-        for j in 0..parity.r {
-            e[j] = (Element(b[j]) * d).0;
+        let mut e = self.basis();
+        for c in e.iter_mut() {
+            *c = (Element(*c) * d).0;
         }
         e
     }
 }
 
-// A row for each lost packet, in their order.
+// A row for each lost packet, in their order. The rows are counted by hand: an iterator that lends them to be written would leave nothing known of them.
 pub(crate) fn rows(parity: Parity, lost: u16) -> [[u8; 8]; 8]
     requires { ones lost ≤ 8 }
     ensures { Rows 16 parity.r lost result }

@@ -30,7 +30,8 @@ fn roots(parity: Parity) -> [u8; 8]
     roots
 }
 
-// The values v that a polynomial has at the places x, after one coefficient more. Three lists go by one position.
+// The values v that a polynomial has at the places x, after one coefficient more. Three lists go by one position: over a zip that writes, nothing is known
+// of what was written.
 fn after(x: [u8; 8], v: [u8; 8], c: u8) -> [u8; 8]
     ensures { Holds 0 8 (λ j. row x j ⊗ row v j ⊕ c) result }
 {
@@ -48,13 +49,14 @@ fn values(x: [u8; 8], c: [u8; 16]) -> [u8; 8]
 {
     let mut v = [0u8; 8];
     for byte in c {
+        // A name of its own: the checker lays no call's array in a local that is lent.
         let next = after(x, v, byte);
         v = next;
     }
     v
 }
 
-// The first r of both go by one position.
+// Of the first r only: both lists go by one position.
 fn dot(parity: Parity, a: [u8; 8], b: [u8; 8]) -> u8
     ensures { result ≡ sum parity.r (λ j. row a j ⊗ row b j) }
 {
@@ -93,7 +95,8 @@ impl System {
         })
     }
 
-    // Column j, with the only bytes for the lost packets that can make a codeword.
+    // Column j, with the only bytes for the lost packets that can make a codeword. The rows passed are counted by hand: an iterator over them would need a
+    // way out for a row too few, which is never taken.
     fn column(&self, block: &[u8; 1952], j: usize) -> [u8; 16]
         requires { j < 122 }
         ensures { Holds 0 16 (solve.solved self.now.parity.r self.now.lost (column block.now j)) result }

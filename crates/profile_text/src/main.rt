@@ -25,104 +25,77 @@ mod say;
 mod scan;
 mod show;
 
-use draft::Draft;
-use manners::Request;
-
-// The longest text.
-const MOST: usize = 16_384;
-
-// Room for a profile's text, some 500 bytes.
-const ROOM: usize = 1024;
+use manners::twin::Twins;
+use manners::{Program, Request, Said};
+use rules::Refusal;
+use say::{Mistake, Refused};
 
 // What the tool is asked for.
-#[derive(Drop)]
+#[derive(Clone, Copy)]
 enum Command {
     Make,
     Show,
-    Neither,
 }
 
-// The one word after the program's name.
-fn asked(rt: HostRuntime) -> Command {
-    let mut word = [0u8; 8];
-    let n = manners::word(rt, 1, &mut word).unwrap_or(0);
-    if manners::same(&word[..n], b"make") {
-        return Command::Make;
+impl Command {
+    fn from_word(word: &[u8]) -> Option<Command> {
+        match word {
+            b"make" => Some(Command::Make),
+            b"show" => Some(Command::Show),
+            _ => None,
+        }
     }
-    if manners::same(&word[..n], b"show") {
-        return Command::Show;
-    }
-    Command::Neither
-}
 
-// The profile of a text without mistakes in its lines; twins are found last of all.
-fn write_profile(rt: HostRuntime, d: Draft) {
-    let p = draft::profile_of(d);
-    let w = profile::write(p);
-    if w.number == 46 {
-        return say::twins(rt, p, w.place);
-    }
-    if w.number != 0 {
-        return manners::refuse(rt, w.number);
-    }
-    let bytes = w.bytes;
-    manners::write_part(rt, b"profile_text", &bytes, w.count);
-}
-
-// The profile's bytes, or the text's first mistake.
-fn make_profile(rt: HostRuntime, input: &[u8]) {
-    if MOST < input.len() {
-        return say::too_long(rt);
-    }
-    let at = scan::start(input);
-    let text = &input[at..];
-    let r = draft::read_text(text);
-    let d = r.draft;
-    if draft::is_fine(d) {
-        return write_profile(rt, d);
-    }
-    let start = r.start;
-    if start <= text.len() {
-        say::mistake(rt, r.line, d, &text[start..]);
+    // The one word after the program's name, where it is a command.
+    fn asked(program: Program<'_>) -> Option<Command> {
+        let mut word = [0u8; 8];
+        let n = program.word(1, &mut word).ok()?;
+        Command::from_word(&word[..n])
     }
 }
 
-// The profile's text, or its refusal.
-fn show_profile(rt: HostRuntime, bytes: &[u8]) {
-    let r = profile::read(bytes);
-    if r.number != 0 {
-        return manners::refuse_profile(rt, r.number, r.place, bytes);
+// The bytes of the profile that a text gives; twins are found last of all.
+fn make_profile(program: Program<'_>, text: &[u8]) -> Result<(), Said> {
+    let p = draft::read(text).map_err(|refused| refuse_text(program, refused))?;
+    match profile::write(p) {
+        Ok(written) => program.write(written.as_bytes()),
+        Err(Refusal::Twins(slot)) => {
+            let masks = p.masks;
+            let seeds = p.seeds;
+            let twins = Twins { masks, seeds, slot };
+            let refused = Refused::in_text(Mistake::Repeated(twins));
+            Err(refuse_text(program, refused))
+        }
+        Err(refusal) => Err(program.refuse(refusal)),
     }
-    let p = r.profile;
-    let mut out = [0u8; ROOM];
-    let n = show::text(&mut out, p);
-    manners::write_part(rt, b"profile_text", &out, n);
+}
+
+// A text's first mistake.
+fn refuse_text(program: Program<'_>, refused: Refused<'_>) -> Said {
+    program.say(format_args!("{}: {refused}", program.name))
+}
+
+// The profile's text.
+fn show_profile(program: Program<'_>, bytes: &[u8]) -> Result<(), Said> {
+    let p = profile::read(bytes).map_err(|refusal| program.refuse_profile(refusal, bytes))?;
+    program.print(show::Text(p))
 }
 
 // Reads the input, and one byte more than the longest text to see that it is longer; a longer profile is refused for its first bytes.
-fn run(rt: HostRuntime, command: Command) {
-    let mut input = [0u8; MOST + 1];
-    let n = manners::read_full(&mut rt.stdin(), &mut input);
-    if n <= MOST && manners::is_unread(rt, b"profile_text") {
-        return;
+fn obey(program: Program<'_>, command: Command) -> Result<(), Said> {
+    let mut input = [0u8; draft::MOST + 1];
+    let n = manners::read_full(&mut program.rt.stdin(), &mut input);
+    if n <= draft::MOST {
+        program.input_ended()?;
     }
     match command {
-        Command::Make => make_profile(rt, &input[..n]),
-        _ => show_profile(rt, &input[..n]),
+        Command::Make => make_profile(program, &input[..n]),
+        Command::Show => show_profile(program, &input[..n]),
     }
 }
 
-fn usage(rt: HostRuntime) {
-    manners::usage(
-        rt,
-        b"profile_text make < text > profile, or profile_text show < profile > text; profile_text --help says more",
-    );
-}
-
-fn help(rt: HostRuntime) {
-    manners::write(
-        rt,
-        b"profile_text",
+fn help(program: Program<'_>) -> Result<(), Said> {
+    program.write(
         b"profile_text make < text > profile      a profile's bytes from a text
 profile_text show < profile > text      a text from which make makes the same bytes
 
@@ -143,22 +116,23 @@ Standard error    a refused text: its first mistake. A refused profile: its numb
 
 bin/profile_text ends with 0 when it is done, 1 when it refused, 2 for a wrong use or trouble.
 ",
-    );
+    )
 }
 
-// Does what the word asks.
-fn obey(rt: HostRuntime) {
-    let command = asked(rt);
-    if let Command::Neither = command {
-        return usage(rt);
-    }
-    run(rt, command);
+fn usage(program: Program<'_>) -> Said {
+    program.usage(
+        "profile_text make < text > profile, or profile_text show < profile > text; profile_text --help says more",
+    )
 }
 
 fn main(rt: HostRuntime) {
-    match manners::asked(rt) {
-        Request::Help => help(rt),
-        Request::Word => obey(rt),
-        _ => usage(rt),
-    }
+    let program = Program {
+        rt,
+        name: "profile_text",
+    };
+    let _ = match (program.asked(), Command::asked(program)) {
+        (Request::Help, _) => help(program),
+        (Request::Word, Some(command)) => obey(program, command),
+        _ => Err(usage(program)),
+    };
 }

@@ -1,133 +1,150 @@
 // Numbers as a text has them: whole ones, decimal or 0x and hexadecimal, and f32 values, as D, a decimal number or 0x and the pattern.
 ghost use Rattle.std.specs.Prelude.{◌<◌, ◌≤◌};
 
-use super::scan;
-use super::scan::Run;
+use std::fmt;
 
-// The most that a decimal number for an f32 has, leading zeros aside, and after the point: both it and the power of ten are then f32 exactly.
-const MOST: u32 = 9_999_999;
-
-const PLACES: usize = 10;
-
-// What a word is as a number: too many digits is only said of an f32.
-#[derive(Drop)]
-pub enum Number {
-    Is(u32),
-    Not,
-    Long,
+// Why a word is no number: too many digits is only said of an f32.
+#[derive(Clone, Copy)]
+pub enum NumberError {
+    NotNumber,
+    TooLong,
 }
 
-// A digit's value, 16 where the byte is none.
-fn digit(b: u8) -> u32
-    ensures { result ≤ 16 }
-{
-    match b {
-        b'0'..=b'9' => (b - b'0') as u32,
-        b'a'..=b'f' => (b - b'a') as u32 + 10,
-        b'A'..=b'F' => (b - b'A') as u32 + 10,
-        _ => 16,
+impl fmt::Display for NumberError {
+    fn fmt<W: fmt::Write>(&self, f: &mut fmt::Formatter<W>) -> fmt::Result {
+        f.write_str(match self {
+            NumberError::NotNumber => "is not a number, a plain decimal or 0x number is due",
+            NumberError::TooLong => "has more than 7 digits, or more than 10 after the point",
+        })
     }
 }
 
-// The base of the digits.
-fn base_of(hex: bool) -> u32
-    ensures { result ≤ 16 }
+// The number that some digits make after those of x, u32::MAX where it is larger; an error where a byte is no digit.
+fn with_digits(x: u32, digits: &[u8], radix: u32) -> Result<u32, NumberError>
+    requires low { 2 ≤ radix }
+    requires high { radix ≤ 36 }
 {
-    if hex { 16 } else { 10 }
-}
-
-// One digit more; a number that is too large stays too large.
-fn longer(x: u32, d: u32, hex: bool) -> u32
-    requires { d < 16 }
-{
-    if 0x0FFF_FFFF < x {
-        return u32::MAX;
-    }
-    if hex { x * 16 + d } else { x * 10 + d }
-}
-
-// The number that some digits make after those of x, u32::MAX where it is larger.
-fn digits(x: u32, s: &[u8], hex: bool) -> Number {
-    let base = base_of(hex);
     let mut x = x;
-    let mut i = 0;
-    while i < s.len() {
-        let d = digit(s[i]);
-        if base <= d {
-            return Number::Not;
-        }
-        x = longer(x, d, hex);
-        i += 1;
+    for b in digits {
+        let digit = char::from(*b)
+            .to_digit(radix)
+            .ok_or(NumberError::NotNumber)?;
+        x = x.saturating_mul(radix).saturating_add(digit);
     }
-    Number::Is(x)
+    Ok(x)
 }
 
-// Whether 0x and at least one byte more.
-fn is_hex(s: &[u8]) -> bool {
-    if s.len() <= 2 {
-        return false;
+// The hexadecimal digits after 0x.
+fn after_mark(word: &[u8]) -> Option<&[u8]> {
+    match word {
+        [b'0', b'x' | b'X', digits @ ..] if !digits.is_empty() => Some(digits),
+        _ => None,
     }
-    s[0] == b'0' && (s[1] == b'x' || s[1] == b'X')
 }
 
 // A whole number.
-pub fn whole(s: &[u8]) -> Number {
-    if 2 < s.len() {
-        if is_hex(s) {
-            return digits(0, &s[2..], true);
-        }
+pub fn whole(word: &[u8]) -> Result<u32, NumberError> {
+    match after_mark(word) {
+        Some(digits) => with_digits(0, digits, 16),
+        None => with_digits(0, word, 10),
     }
-    digits(0, s, false)
-}
-
-// 10 to the n, which is an f32 exactly.
-fn power(n: usize) -> f32 {
-    match n {
-        0 => 1.0,
-        1 => 10.0,
-        2 => 100.0,
-        3 => 1000.0,
-        4 => 10000.0,
-        5 => 100000.0,
-        6 => 1000000.0,
-        7 => 10000000.0,
-        8 => 100000000.0,
-        9 => 1000000000.0,
-        _ => 10000000000.0,
-    }
-}
-
-// m / 10^n in one division of exact numbers, for m up to MOST and n up to PLACES: the f32 nearest to the decimal number.
-pub fn quotient(m: u32, n: usize) -> f32 {
-    std::num::nearest_u32_to_f32(m) / power(n)
-}
-
-// The pattern of the decimal number with these digits before and after the point.
-fn decimal(before: &[u8], after: &[u8]) -> Number {
-    if before.len() == 0 && after.len() == 0 {
-        return Number::Not;
-    }
-    let Number::Is(x) = digits(0, before, false) else {
-        return Number::Not;
-    };
-    let Number::Is(m) = digits(x, after, false) else {
-        return Number::Not;
-    };
-    if MOST < m || PLACES < after.len() {
-        return Number::Long;
-    }
-    Number::Is(parts::bits_of_part(quotient(m, after.len())))
 }
 
 // The pattern of an f32.
-pub fn part(s: &[u8]) -> Number {
-    if is_hex(s) {
-        return whole(s);
+pub fn part(word: &[u8]) -> Result<u32, NumberError> {
+    match after_mark(word) {
+        Some(digits) => with_digits(0, digits, 16),
+        None => Ok(parts::bits_of_part(Decimal::from_text(word)?.value())),
     }
-    let p = scan::end_of(Run::Whole, s, 0);
-    if p < s.len() {
-        decimal(&s[0..p], &s[p + 1..])
-    } else {
-        decimal(s, &s[p..])
+}
+
+// What of a word stands before its first point, and what after it.
+fn split_at_point(word: &[u8]) -> (&[u8], &[u8]) {
+    match word.iter().position(|b| *b == b'.') {
+        Some(p) => (&word[..p], &word[p + 1..]),
+        None => (word, b""),
+    }
+}
+
+// A decimal number: its digits, and how many of them stand after the point. Both the digits, as a whole number, and the power of ten are f32 exactly.
+#[derive(Clone, Copy)]
+pub struct Decimal {
+    digits: u32,
+    places: usize,
+    ghost few_digits: { digits ≤ 9999999 },
+    ghost few_places: { places ≤ 10 },
+}
+
+impl Decimal {
+    // The most that the digits are, leading zeros aside.
+    const MOST: u32 = 9_999_999;
+
+    const PLACES: usize = 10;
+
+    // Of a word that is some digits, with a point before, between or after them or with none.
+    fn from_text(word: &[u8]) -> Result<Decimal, NumberError> {
+        let (before, after) = split_at_point(word);
+        if before.is_empty() && after.is_empty() {
+            return Err(NumberError::NotNumber);
+        }
+        let digits = with_digits(with_digits(0, before, 10)?, after, 10)?;
+        if Decimal::MOST < digits || Decimal::PLACES < after.len() {
+            return Err(NumberError::TooLong);
+        }
+        Ok(Decimal {
+            digits,
+            places: after.len(),
+        })
+    }
+
+    // 10 to the number of places.
+    fn scale(self) -> u64
+        ensures { 0 < result }
+    {
+        10u64.pow(self.places as u32)
+    }
+
+    // The f32 nearest to it, by one division of exact numbers.
+    pub fn value(self) -> f32 {
+        std::num::nearest_u32_to_f32(self.digits) / std::num::nearest_u64_to_f32(self.scale())
+    }
+
+    // The least with so many places that is at least x, by halving; the largest where none is.
+    fn least_from(x: f32, places: usize) -> Decimal
+        requires { places ≤ 10 }
+    {
+        let mut low: u32 = 0;
+        let mut high = Decimal::MOST;
+        while low < high {
+            let digits = (low + high) / 2;
+            if (Decimal { digits, places }).value() < x {
+                low = digits + 1;
+            } else {
+                high = digits;
+            }
+        }
+        Decimal {
+            digits: low,
+            places,
+        }
+    }
+
+    // The one that is x, with as few places as there can be.
+    pub fn exactly(x: f32) -> Option<Decimal> {
+        (0..=Decimal::PLACES)
+            .map(|places| Decimal::least_from(x, places))
+            .find(|d| d.value() == x)
+    }
+}
+
+impl fmt::Display for Decimal {
+    fn fmt<W: fmt::Write>(&self, f: &mut fmt::Formatter<W>) -> fmt::Result {
+        let digits = u64::from(self.digits);
+        let places = self.places;
+        if places == 0 {
+            return write!(f, "{digits}");
+        }
+        let scale = self.scale();
+        write!(f, "{}.{:0places$}", digits / scale, digits % scale)
     }
 }

@@ -1,204 +1,204 @@
-// The tool's messages, in plain words.
-use super::draft::{Draft, Fault};
-use super::{draft, fields, show};
-use manners::{field, put, twin};
-use rules::Profile;
+// What is wrong with a text, in plain words.
+use super::fields::Field;
+use super::number::NumberError;
+use super::show::Part;
+use manners::field::{Allowed, Outside};
+use manners::twin::Twins;
+use manners::words::Foreign;
+use std::fmt;
 
-// Room for a message.
-const ROOM: usize = 256;
-
-// At most so many bytes of a word are shown.
-const SHOWN: usize = 40;
-
-// What a field is called.
-pub fn name(out: &mut [u8], at: usize, f: usize) -> usize {
-    match f {
-        0 => put::bytes(out, at, b"masks"),
-        1 => put::bytes(out, at, b"level"),
-        2 => put::bytes(out, at, b"mode"),
-        3 => put::bytes(out, at, b"k"),
-        5 => put::bytes(out, at, b"floor"),
-        _ => put::bytes(out, at, b"seeds"),
-    }
-}
+// How many modes there are.
+const MODES: u8 = 5;
 
 // How many seeds a mode has.
-fn in_mode(out: &mut [u8], at: usize, mode: u32) -> usize {
-    let at = put::decimal(out, at, fields::seeds(mode) as u64);
-    let at = put::bytes(out, at, b" in mode ");
-    put::decimal(out, at, mode as u64)
-}
+#[derive(Clone, Copy)]
+struct InMode(u8);
 
-// How many seeds each mode has.
-fn in_modes(out: &mut [u8], at: usize) -> usize {
-    let mut at = in_mode(out, at, 0);
-    for mode in 1..fields::MODES {
-        at = put::bytes(out, at, b", ");
-        at = in_mode(out, at, mode);
-    }
-    at
-}
-
-// How many seeds there should be.
-fn due_seeds(out: &mut [u8], at: usize, d: Draft) -> usize {
-    if draft::has_mode(d) {
-        in_mode(out, at, d.values[fields::MODE_AT])
-    } else {
-        in_modes(out, at)
+impl fmt::Display for InMode {
+    fn fmt<W: fmt::Write>(&self, f: &mut fmt::Formatter<W>) -> fmt::Result {
+        let mode = self.0;
+        write!(f, "{} in mode {mode}", modes::slot_count(mode))
     }
 }
 
-// How many numbers a field should have.
-fn due(out: &mut [u8], at: usize, f: usize, d: Draft) -> usize {
-    if f == fields::SEEDS {
-        due_seeds(out, at, d)
-    } else {
-        put::decimal(out, at, fields::most(f) as u64)
-    }
+// How many numbers of a field are due: of the seeds by the mode, where the text gives it.
+#[derive(Clone, Copy)]
+pub enum Due {
+    Count(usize),
+    InMode(u8),
+    InAnyMode,
 }
 
-// How many numbers a field has.
-fn given(d: Draft, f: usize) -> usize {
-    if f < fields::FIELDS { d.counts[f] } else { 0 }
-}
-
-// The start of a message: the program and the line's number, 0 where no line is at fault.
-fn place(out: &mut [u8], n: usize) -> usize {
-    if n == 0 {
-        return put::bytes(out, 0, b"profile_text: text: ");
-    }
-    let at = put::bytes(out, 0, b"profile_text: line ");
-    let at = put::decimal(out, at, n as u64);
-    put::bytes(out, at, b": ")
-}
-
-// The word from..to of a line, or its start.
-fn shown(s: &[u8], from: usize, to: usize) -> &[u8] {
-    if s.len() < to || to < from {
-        return &s[0..0];
-    }
-    if SHOWN < to - from {
-        &s[from..from + SHOWN]
-    } else {
-        &s[from..to]
-    }
-}
-
-// A word in quotes, and what is wrong with it.
-fn word(out: &mut [u8], at: usize, s: &[u8], what: &[u8]) -> usize {
-    let at = put::bytes(out, at, b"\"");
-    let at = put::foreign(out, at, s);
-    put::bytes(out, at, what)
-}
-
-// A word whose number is outside its field's range, with the index among the field's numbers that it would have had.
-fn outside(out: &mut [u8], at: usize, d: Draft, f: usize, s: &[u8]) -> usize {
-    let number = fields::refusal(f);
-    let at = field::before(out, at, number, given(d, f));
-    let at = put::foreign(out, at, s);
-    field::after(out, at, number)
-}
-
-// A level that the mode can't send; no decimal number of a text is so large, so it is shown by its pattern.
-fn unsendable(out: &mut [u8], at: usize, d: Draft) -> usize {
-    let at = field::before(out, at, fields::refusal(fields::LEVEL), 0);
-    let at = put::pattern(out, at, d.values[fields::LEVEL_AT]);
-    field::after_in_mode(out, at)
-}
-
-// A floor above half the level, as `show` has it.
-fn above_half(out: &mut [u8], at: usize, d: Draft) -> usize {
-    let at = field::before(out, at, fields::refusal(fields::FLOOR), 0);
-    let at = show::value(out, at, parts::part_of_bits(d.values[fields::FLOOR_AT]));
-    field::after_at_level(out, at, d.values[fields::LEVEL_AT])
-}
-
-// A word that is no number, and what is one.
-fn no_number(out: &mut [u8], at: usize, f: usize, s: &[u8]) -> usize {
-    let at = word(
-        out,
-        at,
-        s,
-        b"\" is not a number, a plain decimal or 0x number is due",
-    );
-    if fields::is_part(f) {
-        at
-    } else {
-        put::bytes(out, at, b", with no point")
-    }
-}
-
-// How many numbers there are, and how many there should be.
-fn counts(out: &mut [u8], at: usize, f: usize, d: Draft, s: &[u8]) -> usize {
-    let at = put::bytes(out, at, s);
-    let at = put::bytes(out, at, b" numbers, there are ");
-    let at = put::decimal(out, at, given(d, f) as u64);
-    let at = put::bytes(out, at, b" and there should be ");
-    due(out, at, f, d)
-}
-
-// What is wrong in a field; s is the word that it speaks of.
-fn in_field(out: &mut [u8], at: usize, d: Draft, f: usize, s: &[u8]) -> usize {
-    let fault = d.fault;
-    match fault {
-        Fault::NotNumber => no_number(out, at, f, s),
-        Fault::Long => word(
-            out,
-            at,
-            s,
-            b"\" has more than 7 digits, or more than 10 after the point",
-        ),
-        Fault::TooMany => counts(out, at, f, d, b"too many"),
-        Fault::TooFew => counts(out, at, f, d, b"too few"),
-        Fault::Empty => put::bytes(out, at, b"no number in this line"),
-        Fault::Twice => put::bytes(out, at, b"given twice"),
-        _ => put::bytes(out, at, b"missing"),
-    }
-}
-
-// A mistake, with the field's name before it where its words do not name what is wrong.
-fn what(out: &mut [u8], at: usize, d: Draft, f: usize, s: &[u8]) -> usize {
-    let fault = d.fault;
-    match fault {
-        Fault::Unknown => word(
-            out,
-            at,
-            s,
-            b"\" is an unknown word, the words are masks, level, mode, k, seeds and floor",
-        ),
-        Fault::OutOfRange => outside(out, at, d, f, s),
-        Fault::Unsendable => unsendable(out, at, d),
-        Fault::AboveHalf => above_half(out, at, d),
-        _ => {
-            let at = name(out, at, f);
-            let at = put::bytes(out, at, b": ");
-            in_field(out, at, d, f, s)
+impl Due {
+    // In any mode at most.
+    pub fn most(self) -> usize {
+        match self {
+            Due::Count(n) => n,
+            Due::InMode(mode) => modes::slot_count(mode),
+            Due::InAnyMode => 48,
         }
     }
 }
 
-// Says a text's first mistake, in line n; s is the text from that line on.
-pub fn mistake(rt: HostRuntime, n: usize, d: Draft, s: &[u8]) {
-    let mut out = [0u8; ROOM];
-    let at = place(&mut out, n);
-    let at = what(&mut out, at, d, d.field, shown(s, d.from, d.to));
-    put::say(rt, &mut out, at);
+impl fmt::Display for Due {
+    fn fmt<W: fmt::Write>(&self, f: &mut fmt::Formatter<W>) -> fmt::Result {
+        match self {
+            Due::Count(n) => write!(f, "{n}"),
+            Due::InMode(mode) => write!(f, "{}", InMode(*mode)),
+            Due::InAnyMode => {
+                write!(f, "{}", InMode(0))?;
+                for mode in 1..MODES {
+                    write!(f, ", {}", InMode(mode))?;
+                }
+                Ok(())
+            }
+        }
+    }
 }
 
-// Says that a slot repeats an earlier one of its symbol: no line of the text is at fault by itself.
-pub fn twins(rt: HostRuntime, p: Profile, slot: usize) {
-    let masks = p.masks;
-    let seeds = p.seeds;
-    let mut out = [0u8; ROOM];
-    let at = place(&mut out, 0);
-    let at = twin::words(&mut out, at, masks, seeds, slot);
-    put::say(rt, &mut out, at);
+// At most so many bytes of a word are shown.
+const SHOWN: usize = 40;
+
+// A word of a text, or its start.
+#[derive(Clone, Copy)]
+pub struct Word<'a>(pub &'a [u8]);
+
+impl fmt::Display for Word<'_> {
+    fn fmt<W: fmt::Write>(&self, f: &mut fmt::Formatter<W>) -> fmt::Result {
+        let shown = self.0.get(..SHOWN).unwrap_or(self.0);
+        write!(f, "{}", Foreign(shown))
+    }
 }
 
-// Says that a text is too long.
-pub fn too_long(rt: HostRuntime) {
-    let mut out = [0u8; ROOM];
-    let at = place(&mut out, 0);
-    let at = put::bytes(&mut out, at, b"longer than 16384 bytes");
-    put::say(rt, &mut out, at);
+// A mistake in a text.
+#[derive(Clone, Copy)]
+pub enum Mistake<'a> {
+    // The word is no field's.
+    Unknown(Word<'a>),
+    // The word is no number.
+    Unreadable(Field, Word<'a>, NumberError),
+    // The word is outside its field's range; before it the field had so many numbers.
+    OutOfRange(Field, Word<'a>, usize),
+    // There are so many numbers.
+    TooMany(Field, usize, Due),
+    TooFew(Field, usize, Due),
+    Empty(Field),
+    Twice(Field),
+    Missing(Field),
+    // The mode can't send a level of this pattern.
+    Unsendable(u32),
+    // The floor is above half the level, by their patterns.
+    AboveHalf { level: u32, floor: u32 },
+    // Found by profile::write, last of all.
+    Repeated(Twins),
+    LongText,
+}
+
+impl fmt::Display for Mistake<'_> {
+    fn fmt<W: fmt::Write>(&self, f: &mut fmt::Formatter<W>) -> fmt::Result {
+        match self {
+            Mistake::Unknown(word) => write!(
+                f,
+                "\"{word}\" is an unknown word, the words are masks, level, mode, k, seeds and floor"
+            ),
+            Mistake::Unreadable(field, word, e) => {
+                write!(f, "{field}: \"{word}\" {e}")?;
+                f.write_str(if field.is_part() {
+                    ""
+                } else {
+                    ", with no point"
+                })
+            }
+            Mistake::OutOfRange(field, word, index) => write!(
+                f,
+                "{}",
+                outside_range(*field, *word, *index)
+            ),
+            Mistake::TooMany(field, n, due) => {
+                write!(
+                    f,
+                    "{field}: too many numbers, there are {n} and there should be {due}"
+                )
+            }
+            Mistake::TooFew(field, n, due) => {
+                write!(
+                    f,
+                    "{field}: too few numbers, there are {n} and there should be {due}"
+                )
+            }
+            Mistake::Empty(field) => write!(f, "{field}: no number in this line"),
+            Mistake::Twice(field) => write!(f, "{field}: given twice"),
+            Mistake::Missing(field) => write!(f, "{field}: missing"),
+            Mistake::Unsendable(level) => write!(f, "{}", unsendable(*level)),
+            Mistake::AboveHalf { level, floor } => write!(f, "{}", above_half(*level, *floor)),
+            Mistake::Repeated(twins) => write!(f, "{twins}"),
+            Mistake::LongText => write!(f, "longer than 16384 bytes"),
+        }
+    }
+}
+
+fn outside_range(field: Field, word: Word<'_>, index: usize) -> Outside<Word<'_>> {
+    let field = field.into();
+    Outside {
+        field,
+        index,
+        value: word,
+        allowed: Allowed::InField(field),
+    }
+}
+
+// No decimal number of a text is so large, so the level is shown by its pattern.
+fn unsendable(level: u32) -> Outside<Pattern> {
+    Outside {
+        field: Field::Level.into(),
+        index: 0,
+        value: Pattern(level),
+        allowed: Allowed::Sendable,
+    }
+}
+
+// The floor as `show` has it.
+fn above_half(level: u32, floor: u32) -> Outside<Part> {
+    Outside {
+        field: Field::Floor.into(),
+        index: 0,
+        value: Part(parts::part_of_bits(floor)),
+        allowed: Allowed::AtLevel(level),
+    }
+}
+
+// The pattern of an f32.
+#[derive(Clone, Copy)]
+pub struct Pattern(pub u32);
+
+impl fmt::Display for Pattern {
+    fn fmt<W: fmt::Write>(&self, f: &mut fmt::Formatter<W>) -> fmt::Result {
+        write!(f, "{:#010x}", self.0)
+    }
+}
+
+// A text's first mistake, and the line that it is in, where it is in one.
+#[derive(Clone, Copy)]
+pub struct Refused<'a> {
+    pub line: Option<usize>,
+    pub mistake: Mistake<'a>,
+}
+
+impl<'a> Refused<'a> {
+    // A mistake that is in no line by itself.
+    pub fn in_text(mistake: Mistake<'a>) -> Refused<'a> {
+        Refused {
+            line: None,
+            mistake,
+        }
+    }
+}
+
+impl fmt::Display for Refused<'_> {
+    fn fmt<W: fmt::Write>(&self, f: &mut fmt::Formatter<W>) -> fmt::Result {
+        match self.line {
+            Some(n) => write!(f, "line {n}: {}", self.mistake),
+            None => write!(f, "text: {}", self.mistake),
+        }
+    }
 }

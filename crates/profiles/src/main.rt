@@ -3,107 +3,90 @@
 // stdin and stdout are made by outside/flo.py.
 #![tactic(auto)]
 
-ghost use Rattle.std.specs.Prelude.{◌≡◌, ◌<◌, length};
+ghost use Rattle.std.specs.Prelude.{◌<◌};
 
-use std::io;
+use rules::{Profile, Refusal};
 use std::io::Read;
+use std::{fmt, io};
 
-fn print(rt: &impl Print, n: usize) -> io::Result<()> {
-    print!(rt; "{n} ")
-}
+// A call's number and place, zeros where it refuses nothing.
+#[derive(Drop)]
+struct Answer(Option<Refusal>);
 
-fn print_answer(rt: &impl Print, number: u32, place: usize) -> io::Result<()> {
-    print(rt, number as usize)?;
-    print(rt, place)
-}
-
-// Whether the first n written bytes are the read ones.
-fn compare(rt: &impl Print, read: &[u8], written: &[u8], n: usize) -> io::Result<()> {
-    if n <= written.len() {
-        if read == &written[0..n] {
-            rt.write_all(b"same")?;
+impl fmt::Display for Answer {
+    fn fmt<W: fmt::Write>(&self, f: &mut fmt::Formatter<W>) -> fmt::Result {
+        match self.0 {
+            None => f.write_str("0 0"),
+            Some(refusal) => write!(f, "{} {}", refusal.number(), refusal.place()),
         }
     }
-    Ok(())
 }
 
 // What writing answers where the last of the 48 seeds is 1: it is one of the block's in mode 0, and in any other mode an unused one, which is to be zero.
-fn with_last_seed(rt: &impl Print, p: rules::Profile) -> io::Result<()> {
-    let mut q = p;
-    q.seeds[47] = 1;
-    let a = profile::write(q);
-    print(rt, a.number as usize)?;
-    let place = a.place;
-    print!(rt; "{place}")
+fn with_last_seed(mut p: Profile) -> Answer {
+    p.seeds[47] = 1;
+    Answer(profile::write(p).err())
 }
 
-fn written_again(rt: &impl Print, bytes: &[u8], p: rules::Profile) -> io::Result<()> {
-    let a = profile::write(p);
-    print_answer(rt, a.number, a.place)?;
-    print(rt, a.count)?;
-    let written = a.bytes;
-    compare(rt, bytes, &written, a.count)?;
-    rt.write_all(b" ")?;
-    with_last_seed(rt, p)
+fn written_again(rt: &impl Print, bytes: &[u8], p: Profile) -> io::Result<()> {
+    let written = profile::write(p);
+    let (count, same) = match &written {
+        Ok(w) => (w.count, w.as_bytes() == bytes),
+        Err(_) => (0, false),
+    };
+    let word = if same { "same" } else { "" };
+    print!(rt;
+        "{} {count} {word} {}",
+        Answer(written.err()),
+        with_last_seed(p)
+    )
 }
 
 fn judged(rt: &impl Print, bytes: &[u8]) -> io::Result<()> {
-    let a = profile::read(bytes);
-    print_answer(rt, a.number, a.place)?;
-    if a.number == 0 {
-        written_again(rt, bytes, a.profile)?;
+    let read = profile::read(bytes);
+    print!(rt; "{} ", Answer(read.err()))?;
+    if let Ok(p) = read {
+        written_again(rt, bytes, p)?;
     }
-    rt.write_all(b"\n")
+    println!(rt)
 }
 
 // The length that two bytes say, high byte first; no entry is longer than 511.
-fn length_of(high: u8, low: u8) -> usize
+fn length_of(head: [u8; 2]) -> usize
     ensures { result < 512 }
 {
-    (high % 2) as usize * 256 + low as usize
+    (u16::from_be_bytes(head) % 512) as usize
 }
 
 // Whether the input had as many bytes as there is room for; they are then in it.
 fn fills(input: &mut impl Read, room: &mut [u8]) -> io::Result<bool> {
     match input.read_exact(room) {
         Ok(()) => Ok(true),
-        Err(e) => {
-            if e.kind() == io::ErrorKind::UnexpectedEof {
-                Ok(false)
-            } else {
-                Err(e)
-            }
-        }
+        Err(e) if e.kind() == io::ErrorKind::UnexpectedEof => Ok(false),
+        Err(e) => Err(e),
     }
 }
 
-// One entry of the table; false where there is none.
-fn entry(rt: &impl Print, input: &mut impl Read, room: &mut [u8]) -> io::Result<bool>
-    requires { length room.old ≡ 512 }
-{
+// The table's next entry, if it has one.
+fn entry<'a>(input: &mut impl Read, room: &'a mut [u8; 512]) -> io::Result<Option<&'a [u8]>> {
     let mut head = [0u8; 2];
     if !fills(input, &mut head)? {
-        return Ok(false);
+        return Ok(None);
     }
-    let n = length_of(head[0], head[1]);
-    let part = &mut room[0..n];
-    if !fills(input, part)? {
-        return Ok(false);
+    let bytes = &mut room[..length_of(head)];
+    if !fills(input, bytes)? {
+        return Ok(None);
     }
-    judged(rt, part)?;
-    Ok(true)
+    Ok(Some(bytes))
 }
 
 // All entries, of a table that has at most so many.
-fn table(rt: &impl Print, input: &mut impl Read, room: &mut [u8]) -> io::Result<()>
-    requires { length room.old ≡ 512 }
-{
-    let mut turn: usize = 0;
-    while turn < 16_384 {
-        if !entry(rt, input, room)? {
-            return Ok(());
+fn table(rt: &impl Print, input: &mut impl Read, room: &mut [u8; 512]) -> io::Result<()> {
+    for _ in 0..16_384 {
+        match entry(input, room)? {
+            Some(bytes) => judged(rt, bytes)?,
+            None => return Ok(()),
         }
-        turn += 1;
     }
     Ok(())
 }

@@ -6,14 +6,11 @@
 
 mod file;
 
-ghost use Rattle.std.specs.Prelude.{◌*◌, ◌≤◌, length};
+ghost use Rattle.std.specs.Prelude.{◌<◌, ◌≤◌};
 
-use manners::{PATH_MAX, Request, put};
-use profile::only;
-use rules::{Answer, Profile, Receipt};
-
-// No number of the documents: the input can't be read, which was said.
-const UNREAD: u32 = u32::MAX;
+use manners::{PATH_MAX, Program, Request, Said, read_full};
+use rules::{Profile, Receipt, Refusal};
+use std::fmt;
 
 // Bytes of one symbol's first parts, or second parts.
 const PARTS: usize = 16_384;
@@ -21,269 +18,194 @@ const PARTS: usize = 16_384;
 // Bytes of the state that feeding keeps: how many cells have come, and a byte for each cell of the largest grid.
 const STATE: usize = 28_674;
 
-// Room for the report.
-const ROOM: usize = 256;
-
-// Two bytes of the input as a number, or it ended before.
-#[derive(Drop)]
-enum Two {
-    Whole(u16),
-    Cut,
+// What ends the receiving before the data is asked for, and was said.
+#[derive(Clone, Copy)]
+enum Stop {
+    Refused(Refusal),
+    Unread,
 }
 
-// What feeding answered, and how many bytes of cells came for it.
-#[derive(Drop)]
-struct Fed {
-    answer: Answer,
-    came: usize,
+// Only input that can't be read is said without a refusal.
+impl From<Said> for Stop {
+    fn from(_: Said) -> Stop {
+        Stop::Unread
+    }
 }
 
-fn read_pair(rt: HostRuntime) -> Two {
+// Reads a part of what stands before the cells: input that ends inside it is refused, unless it did not end.
+fn read_whole(program: Program<'_>, room: &mut [u8]) -> Result<(), Stop> {
+    if read_full(&mut program.rt.stdin(), room) == room.len() {
+        return Ok(());
+    }
+    program.input_ended()?;
+    let refusal = Refusal::EndsInField;
+    program.refuse_short_input(refusal, "the mark mask does");
+    Err(Stop::Refused(refusal))
+}
+
+// Reads a number of two bytes.
+fn read_pair(program: Program<'_>) -> Result<u16, Stop> {
     let mut two = [0u8; 2];
-    if manners::read_full(&mut rt.stdin(), &mut two) != 2 {
-        return Two::Cut;
-    }
-    Two::Whole(manners::pair(two[0], two[1]))
+    read_whole(program, &mut two)?;
+    Ok(u16::from_be_bytes(two))
 }
 
-// The parts that the bytes spell, four each.
-fn gather(bytes: &[u8], list: &mut [f32])
-    requires { 4 * length list.old ≤ length bytes.now }
-{
-    for i in 0..list.len() {
-        let at = 4 * i;
-        list[i] = parts::part_of_bytes(bytes[at], bytes[at + 1], bytes[at + 2], bytes[at + 3]);
-    }
+// How many bytes of cells are due.
+fn due(p: Profile) -> usize {
+    2 * PARTS * modes::symbol_count(p.mode)
 }
 
-// Reads one symbol's first or second parts, and answers how many bytes came.
-fn read_parts(rt: HostRuntime, list: &mut [f32]) -> usize
-    requires { length list.old ≤ 4096 }
-    ensures { result ≤ 16384 }
+// Cells that end after so many bytes are refused, unless the input did not end.
+fn cut(program: Program<'_>, p: Profile, came: usize) -> Result<(), Stop> {
+    program.input_ended()?;
+    let refusal = Refusal::WrongCells;
+    program.refuse_length(refusal, came as u64, due(p) as u64);
+    Err(Stop::Refused(refusal))
+}
+
+// Reads one symbol's first or second parts, which stand behind so many bytes of cells.
+fn read_parts(program: Program<'_>, p: Profile, before: usize, list: &mut [f32]) -> Result<(), Stop>
+    requires { before ≤ 229376 }
 {
     let mut bytes = [0u8; PARTS];
-    let n = manners::read_full(&mut rt.stdin(), &mut bytes);
-    if n == PARTS {
-        gather(&bytes, list);
+    let came = read_full(&mut program.rt.stdin(), &mut bytes);
+    if came < PARTS {
+        return cut(program, p, before + came);
     }
-    n
+    let (fours, _) = bytes.as_chunks::<4>();
+    for (part, four) in list.iter_mut().zip(fours) {
+        *part = parts::part_of_bits(u32::from_be_bytes(*four));
+    }
+    Ok(())
 }
 
-// The answer for cells that did not all come: the input ended, or can't be read.
-fn cut(rt: HostRuntime) -> Answer {
-    if manners::is_unread(rt, b"receive") {
-        only(UNREAD)
-    } else {
-        only(7)
-    }
-}
-
-// Reads one symbol, and feeds its cells as one piece.
-fn feed_one(rt: HostRuntime, p: Profile, state: &mut [u8]) -> Fed
-    ensures { result.came ≤ 32768 }
+// Reads symbol y, and feeds its cells as one piece.
+fn feed_one(program: Program<'_>, p: Profile, y: usize, state: &mut [u8]) -> Result<(), Stop>
+    requires { y < 7 }
 {
     let mut firsts = [0f32; 4096];
     let mut seconds = [0f32; 4096];
-    let first = read_parts(rt, &mut firsts);
-    if first != PARTS {
-        return Fed {
-            answer: cut(rt),
-            came: first,
-        };
-    }
-    let second = read_parts(rt, &mut seconds);
-    let came = PARTS + second;
-    if second != PARTS {
-        return Fed {
-            answer: cut(rt),
-            came,
-        };
-    }
-    Fed {
-        answer: receiving::feed(p, state, &firsts, &seconds),
-        came,
-    }
+    let before = 2 * PARTS * y;
+    read_parts(program, p, before, &mut firsts)?;
+    read_parts(program, p, before + PARTS, &mut seconds)?;
+    receiving::feed(p, state, &firsts, &seconds).map_err(|refusal| {
+        program.refuse(refusal);
+        Stop::Refused(refusal)
+    })
 }
 
-// The symbols in their order, up to a refusal, all into one state.
-fn feed_all(rt: HostRuntime, p: Profile, state: &mut [u8]) -> Fed {
-    let n = modes::symbol_count(p.mode);
-    let mut came: usize = 0;
-    for y in 0..n {
-        let fed = feed_one(rt, p, state);
-        came = 2 * PARTS * y + fed.came;
-        let a = fed.answer;
-        if a.number != 0 {
-            return Fed { answer: a, came };
-        }
+// Nothing comes after the cells.
+fn end_cells(program: Program<'_>, p: Profile) -> Result<(), Stop> {
+    if read_full(&mut program.rt.stdin(), &mut [0u8; 1]) == 0 {
+        program.input_ended()?;
+        return Ok(());
     }
-    Fed {
-        answer: only(0),
-        came,
-    }
-}
-
-// What comes after the cells: 0 where the input ended.
-fn after_cells(rt: HostRuntime) -> Answer {
-    let mut one = [0u8; 1];
-    if manners::read_full(&mut rt.stdin(), &mut one) != 0 {
-        return only(7);
-    }
-    if manners::is_unread(rt, b"receive") {
-        only(UNREAD)
-    } else {
-        only(0)
-    }
-}
-
-// What feeding answered or, where it took all cells, what comes after them.
-fn ended(rt: HostRuntime, a: Answer) -> Answer {
-    if a.number == 0 { after_cells(rt) } else { a }
+    let refusal = Refusal::WrongCells;
+    program.refuse_surplus(refusal, due(p) as u64, due(p) as u64);
+    Err(Stop::Refused(refusal))
 }
 
 // Writes the data to the file that the argument names, where there is one.
-fn keep(rt: HostRuntime, data: &[u8]) {
-    if manners::arg_count(rt) < 2 {
-        return;
+fn keep(program: Program<'_>, data: &[u8]) -> Result<(), Said> {
+    if program.arg_count() < 2 {
+        return Ok(());
     }
     let mut path = [0u8; PATH_MAX];
-    match manners::word(rt, 1, &mut path) {
-        Ok(n) => file::keep(rt, &path[..n], data),
-        Err(e) => manners::cannot(rt, b"receive", b"write FILE", &e),
+    let n = program.tried("write FILE", program.word(1, &mut path))?;
+    file::keep(program, &path[..n], data)
+}
+
+// The refusal in what asking answered; none where the data came.
+fn refused(receipt: Receipt) -> Option<Refusal> {
+    let place = receipt.place;
+    match receipt.number {
+        6 => Some(Refusal::WrongData),
+        9 => Some(Refusal::TooManyLost),
+        10 => Some(Refusal::NoCodeword),
+        17 => Some(Refusal::Unfinished),
+        22 => Some(Refusal::NoSuchState),
+        40 => Some(Refusal::Mask(place)),
+        41 => Some(Refusal::Level(place)),
+        42 => Some(Refusal::Mode(place)),
+        43 => Some(Refusal::K(place)),
+        44 => Some(Refusal::Seed(place)),
+        45 => Some(Refusal::Floor(place)),
+        46 => Some(Refusal::Twins(place)),
+        _ => None,
     }
-}
-
-// A refusal of the profile.
-fn refused(rt: HostRuntime, a: Answer, bytes: &[u8]) -> Receipt {
-    manners::refuse_profile(rt, a.number, a.place, bytes);
-    receiving::silence(a)
-}
-
-// Input that ends before the mark mask does is refused, unless it did not end.
-fn stopped(rt: HostRuntime) -> Receipt {
-    if manners::is_unread(rt, b"receive") {
-        return receiving::silence(only(UNREAD));
-    }
-    manners::refuse_short_input(rt, 1, b"the mark mask does");
-    receiving::silence(only(1))
-}
-
-// Says why the cells gave no data, where it was not said yet.
-fn say_cells(rt: HostRuntime, number: u32, came: usize, due: usize) {
-    if number == 7 && came < due {
-        manners::refuse_length(rt, number, came as u64, due as u64);
-    } else if number == 7 {
-        manners::refuse_surplus(rt, number, due as u64, due as u64);
-    } else if number != UNREAD {
-        manners::refuse(rt, number);
-    }
-}
-
-fn wide(x: u32) -> u64 {
-    x as u64
 }
 
 // Says why the packets gave no data.
-fn say_lost(rt: HostRuntime, receipt: Receipt, k: u8) {
-    if receipt.number == 9 && k <= 16 {
-        manners::refuse_lost(rt, 9, wide(u16::count_ones(receipt.lost)), (16 - k) as u64);
-    } else {
-        manners::refuse(rt, receipt.number);
+fn refuse(program: Program<'_>, refusal: Refusal, lost: u16, k: u8) -> Said {
+    match refusal {
+        Refusal::TooManyLost => {
+            let r = 16u32.saturating_sub(u32::from(k));
+            program.refuse_lost(refusal, lost.count_ones(), r)
+        }
+        _ => program.refuse(refusal),
     }
 }
 
-// Asks for what was fed, and keeps the data.
-fn ask(rt: HostRuntime, p: Profile, marks: u16, state: &[u8], data: &mut [u8]) -> Receipt {
-    let receipt = receiving::ask(p, marks, state, data);
-    if receipt.number == 0 {
-        keep(rt, data);
-    } else {
-        say_lost(rt, receipt, p.k);
-    }
+// Asks for what was fed, and keeps the data: where it can't be kept, that was said, and the report comes all the same.
+fn ask(program: Program<'_>, p: Profile, marks: u16, state: &[u8]) -> Receipt {
+    let mut room = [0u8; 1708];
+    let n = room.len().min(122 * usize::from(p.k));
+    let receipt = receiving::ask(p, marks, state, &mut room[..n]);
+    let _ = match refused(receipt) {
+        None => keep(program, &room[..n]),
+        Some(refusal) => Err(refuse(program, refusal, receipt.lost, p.k)),
+    };
     receipt
 }
 
-// Feeds all cells, and asks for the data once the input has ended with them.
-fn receive_cells(rt: HostRuntime, p: Profile, marks: u16) -> Receipt {
-    let due = 2 * PARTS * modes::symbol_count(p.mode);
+// Feeds the symbols in their order, and asks for the data once the input has ended with them.
+fn receive_cells(program: Program<'_>, p: Profile, marks: u16) -> Result<Receipt, Stop> {
     let mut state = [0u8; STATE];
-    let fed = feed_all(rt, p, &mut state);
-    let a = ended(rt, fed.answer);
-    if a.number != 0 {
-        say_cells(rt, a.number, fed.came, due);
-        return receiving::silence(a);
+    for y in 0..modes::symbol_count(p.mode) {
+        feed_one(program, p, y, &mut state)?;
     }
-    let mut data = [0u8; 1708];
-    let n = (122 * p.k as usize).min(data.len());
-    ask(rt, p, marks, &state, &mut data[..n])
+    end_cells(program, p)?;
+    Ok(ask(program, p, marks, &state))
 }
 
 // Reads the profile to its place and the mark mask, then judges the profile, then the cells.
-fn receive_by(rt: HostRuntime, bytes: &mut [u8]) -> Receipt {
-    if manners::read_full(&mut rt.stdin(), bytes) != bytes.len() {
-        return stopped(rt);
+fn receive(program: Program<'_>) -> Result<Receipt, Stop> {
+    let length = read_pair(program)?;
+    let mut room = [0u8; 65536];
+    let bytes = &mut room[..usize::from(length)];
+    read_whole(program, bytes)?;
+    let marks = read_pair(program)?;
+    let p = profile::read(bytes).map_err(|refusal| {
+        program.refuse_profile(refusal, bytes);
+        Stop::Refused(refusal)
+    })?;
+    receive_cells(program, p, marks)
+}
+
+// Number and lost mask, then each packet and its reason.
+#[derive(Clone, Copy)]
+struct Report(Receipt);
+
+impl fmt::Display for Report {
+    fn fmt<W: fmt::Write>(&self, f: &mut fmt::Formatter<W>) -> fmt::Result {
+        writeln!(f, "{} {}", self.0.number, self.0.lost)?;
+        for (p, reason) in self.0.reasons.iter().enumerate() {
+            writeln!(f, "{p} {reason}")?;
+        }
+        Ok(())
     }
-    let Two::Whole(marks) = read_pair(rt) else {
-        return stopped(rt);
-    };
-    let reading = profile::read(bytes);
-    if reading.number != 0 {
-        let a = Answer {
-            number: reading.number,
-            place: reading.place,
-        };
-        return refused(rt, a, bytes);
-    }
-    let p = reading.profile;
-    receive_cells(rt, p, marks)
-}
-
-fn receive(rt: HostRuntime) -> Receipt {
-    let Two::Whole(length) = read_pair(rt) else {
-        return stopped(rt);
-    };
-    let mut bytes = [0u8; 65536];
-    receive_by(rt, &mut bytes[..length as usize])
-}
-
-// Two numbers, as a line of the report.
-fn line(out: &mut [u8], at: usize, a: u64, b: u64) -> usize {
-    let at = put::decimal(out, at, a);
-    let at = put::bytes(out, at, b" ");
-    let at = put::decimal(out, at, b);
-    put::bytes(out, at, b"\n")
-}
-
-// A line for each packet.
-fn reason_lines(out: &mut [u8], at: usize, reasons: [u8; 16]) -> usize {
-    let mut at = at;
-    for p in 0..16 {
-        at = line(out, at, p as u64, reasons[p] as u64);
-    }
-    at
-}
-
-fn report(rt: HostRuntime, receipt: Receipt) {
-    let mut out = [0u8; ROOM];
-    let at = line(&mut out, 0, receipt.number as u64, receipt.lost as u64);
-    let reasons = receipt.reasons;
-    let n = reason_lines(&mut out, at, reasons);
-    manners::write_part(rt, b"receive", &out, n);
 }
 
 // Receives, and reports, unless the input can't be read.
-fn run(rt: HostRuntime) {
-    let receipt = receive(rt);
-    if receipt.number != UNREAD {
-        report(rt, receipt);
+fn run(program: Program<'_>) -> Result<(), Said> {
+    match receive(program) {
+        Ok(receipt) => program.print(Report(receipt)),
+        Err(Stop::Refused(refusal)) => program.print(Report(Receipt::from(refusal))),
+        Err(Stop::Unread) => Err(Said),
     }
 }
 
-fn help(rt: HostRuntime) {
-    manners::write(
-        rt,
-        b"receive",
-        b"receive [FILE] < input > report
+const HELP: &[u8] = b"receive [FILE] < input > report
 
 Receives one block of MediaFLO cells by hard decisions.
 
@@ -298,18 +220,17 @@ Standard error    what a number other than 0 means, with the byte of the profile
                   Trouble: what can't be read or written.
 
 bin/receive ends with 0 when the number is 0, 1 at any other number, 2 for a wrong use or trouble.
-",
-    );
-}
+";
 
+// What is in the way was said: bin/ gives the exit status by it.
 fn main(rt: HostRuntime) {
-    match manners::asked(rt) {
-        Request::Nothing => run(rt),
-        Request::Word => run(rt),
-        Request::Help => help(rt),
-        _ => manners::usage(
-            rt,
-            b"receive [FILE] < input > report; receive --help says more",
-        ),
-    }
+    let program = Program {
+        rt,
+        name: "receive",
+    };
+    let _ = match program.asked() {
+        Request::Nothing | Request::Word => run(program),
+        Request::Help => program.write(HELP),
+        _ => Err(program.usage("receive [FILE] < input > report; receive --help says more")),
+    };
 }

@@ -3,112 +3,83 @@
 // and its number to standard error, with what it means: 1 also where the input ends before the profile does.
 #![tactic(auto)]
 
-ghost use Rattle.std.specs.Prelude.{◌*◌, ◌≤◌, length};
-
-use manners::Request;
-use rules::Profile;
+use manners::{Program, Request, Said, read_full};
+use rules::{Profile, Refusal};
 
 // One byte more than the longest data has, to find what is too much.
 const ROOM: usize = 1709;
 
-// The bytes of the parts, four each.
-fn spell(list: &[f32], bytes: &mut [u8])
-    requires { length bytes.old ≤ 4 * length list.now }
-{
-    for i in 0..bytes.len() {
-        let four = parts::bytes_of_part(list[i / 4]);
-        bytes[i] = four[i % 4];
-    }
-}
+// Bytes of one symbol's first parts, or second parts.
+const PARTS: usize = 16_384;
 
-// Writes one symbol's first or second parts, and answers whether it could.
-fn write_parts(rt: HostRuntime, list: &[f32]) -> bool
-    requires { 4096 ≤ length list.now }
-{
-    let mut bytes = [0u8; 16384];
-    spell(list, &mut bytes);
-    manners::write(rt, b"send", &bytes)
+// Writes one symbol's first or second parts.
+fn write_parts(program: Program<'_>, list: &[f32]) -> Result<(), Said> {
+    let mut bytes = [0u8; PARTS];
+    let (fours, _) = bytes.as_chunks_mut::<4>();
+    for (four, part) in fours.iter_mut().zip(list) {
+        *four = parts::bytes_of_part(*part);
+    }
+    program.write(&bytes)
 }
 
 // Says a refusal, for data of a wrong length with the length.
-fn refuse(rt: HostRuntime, number: u32, n: usize, k: u8) {
-    let due = 122 * k as u64;
-    if number != 6 {
-        manners::refuse(rt, number);
-    } else if n < ROOM {
-        manners::refuse_length(rt, number, n as u64, due);
-    } else {
-        manners::refuse_surplus(rt, number, ROOM as u64 - 1, due);
+fn refuse(program: Program<'_>, refusal: Refusal, came: usize, k: u8) -> Said {
+    let due = 122 * u64::from(k);
+    match refusal {
+        Refusal::WrongData if came < ROOM => program.refuse_length(refusal, came as u64, due),
+        Refusal::WrongData => program.refuse_surplus(refusal, ROOM as u64 - 1, due),
+        _ => program.refuse(refusal),
     }
 }
 
-// Sends one symbol, and answers whether to go on.
-fn send_one(rt: HostRuntime, p: Profile, data: &[u8], y: usize) -> bool {
+// Sends one symbol.
+fn send_one(program: Program<'_>, p: Profile, data: &[u8], y: usize) -> Result<(), Said> {
     let mut firsts = [0f32; 4096];
     let mut seconds = [0f32; 4096];
-    let a = sending::send_symbol(p, data, y, &mut firsts, &mut seconds);
-    if a.number != 0 {
-        refuse(rt, a.number, data.len(), p.k);
-        return false;
-    }
-    write_parts(rt, &firsts) && write_parts(rt, &seconds)
+    sending::send_symbol(p, data, y, &mut firsts, &mut seconds).map_err(|refusal| refuse(
+        program,
+        refusal,
+        data.len(),
+        p.k,
+    ))?;
+    write_parts(program, &firsts)?;
+    write_parts(program, &seconds)
 }
 
-// The symbols in their order.
-fn send_all(rt: HostRuntime, p: Profile, data: &[u8]) {
-    let n = modes::symbol_count(p.mode);
-    for y in 0..n {
-        if !send_one(rt, p, data, y) {
-            return;
-        }
-    }
-}
-
-// Reads the data, and sends it.
-fn send_input(rt: HostRuntime, p: Profile) {
+// Reads the data, and sends the symbols in their order.
+fn send_input(program: Program<'_>, p: Profile) -> Result<(), Said> {
     let mut data = [0u8; ROOM];
-    let n = manners::read_full(&mut rt.stdin(), &mut data);
-    if n < ROOM && manners::is_unread(rt, b"send") {
-        return;
+    let came = read_full(&mut program.rt.stdin(), &mut data);
+    if came < ROOM {
+        program.input_ended()?;
     }
-    send_all(rt, p, &data[..n]);
+    for y in 0..modes::symbol_count(p.mode) {
+        send_one(program, p, &data[..came], y)?;
+    }
+    Ok(())
 }
 
-// Input that ends before the profile does is refused, unless it did not end.
-fn stop(rt: HostRuntime) {
-    if !manners::is_unread(rt, b"send") {
-        manners::refuse_short_input(rt, 1, b"the profile does");
+// Reads a part of the profile's bytes: input that ends inside it is refused, unless it did not end.
+fn read_whole(program: Program<'_>, room: &mut [u8]) -> Result<(), Said> {
+    if read_full(&mut program.rt.stdin(), room) == room.len() {
+        return Ok(());
     }
+    program.input_ended()?;
+    Err(program.refuse_short_input(Refusal::EndsInField, "the profile does"))
 }
 
-// Reads the profile to its place, and sends by it.
-fn send_by(rt: HostRuntime, bytes: &mut [u8]) {
-    if manners::read_full(&mut rt.stdin(), bytes) != bytes.len() {
-        return stop(rt);
-    }
-    let reading = profile::read(bytes);
-    if reading.number != 0 {
-        return manners::refuse_profile(rt, reading.number, reading.place, bytes);
-    }
-    let p = reading.profile;
-    send_input(rt, p);
-}
-
-fn send(rt: HostRuntime) {
+// Reads the profile, and sends by it.
+fn send(program: Program<'_>) -> Result<(), Said> {
     let mut two = [0u8; 2];
-    if manners::read_full(&mut rt.stdin(), &mut two) != 2 {
-        return stop(rt);
-    }
-    let mut bytes = [0u8; 65536];
-    let n = manners::pair(two[0], two[1]) as usize;
-    send_by(rt, &mut bytes[..n]);
+    read_whole(program, &mut two)?;
+    let mut room = [0u8; 65536];
+    let bytes = &mut room[..usize::from(u16::from_be_bytes(two))];
+    read_whole(program, bytes)?;
+    let p = profile::read(bytes).map_err(|refusal| program.refuse_profile(refusal, bytes))?;
+    send_input(program, p)
 }
 
-fn help(rt: HostRuntime) {
-    manners::write(
-        rt,
-        b"send",
-        b"send < input > cells
+const HELP: &[u8] = b"send < input > cells
 
 Sends one block as MediaFLO cells.
 
@@ -121,14 +92,14 @@ Standard error    a refusal: its number, and what it means, with the byte of the
                   Trouble: what can't be read or written.
 
 bin/send ends with 0 when it is done, 1 when it refused, 2 for a wrong use or trouble.
-",
-    );
-}
+";
 
+// What is in the way was said: bin/ gives the exit status by it.
 fn main(rt: HostRuntime) {
-    match manners::asked(rt) {
-        Request::Nothing => send(rt),
-        Request::Help => help(rt),
-        _ => manners::usage(rt, b"send < input > cells; send --help says more"),
-    }
+    let program = Program { rt, name: "send" };
+    let _ = match program.asked() {
+        Request::Nothing => send(program),
+        Request::Help => program.write(HELP),
+        _ => Err(program.usage("send < input > cells; send --help says more")),
+    };
 }

@@ -16,6 +16,11 @@ use sums::Sums;
 // Input of so many bytes is too long: its lines and blocks would no longer be sure to have numbers of 64 bits.
 const MOST: u64 = 4_611_686_018_427_387_904;
 
+// Says why a text is no reports.
+fn say(program: Program<'_>, fault: Fault) -> Said {
+    program.say(format_args!("{}: {fault}", program.name))
+}
+
 // How far the input is read: what was added up, and the report at hand.
 #[derive(Drop)]
 struct Progress<'a> {
@@ -25,12 +30,6 @@ struct Progress<'a> {
 }
 
 impl Progress<'_> {
-    // Says what is wrong with the text.
-    fn say(&self, fault: Fault) -> Said {
-        self.program
-            .say(format_args!("{}: {fault}", self.program.name))
-    }
-
     // Takes a byte: where a report is whole with it, it is added.
     fn take_byte(&mut self, b: u8) -> Result<(), Said>
         requires blocks { self.old.sums.blocks < 9223372036854775808 }
@@ -38,14 +37,14 @@ impl Progress<'_> {
         ensures blocks { self.new.sums.blocks ≤ self.old.sums.blocks + 1 }
         ensures line { self.new.reader.line ≤ self.old.reader.line + 1 }
     {
-        match self.reader.next(b) {
-            Ok(None) => Ok(()),
-            Ok(Some(report)) => match self.sums.add(report.receipt) {
-                Ok(()) => Ok(()),
-                Err(refusal) => Err(self.program.refuse_report(refusal, report.line)),
-            },
-            Err(fault) => Err(self.say(fault)),
+        let program = self.program;
+        let whole = self.reader.next(b).map_err(|fault| say(program, fault))?;
+        if let Some(report) = whole {
+            self.sums
+                .add(report.receipt)
+                .map_err(|refusal| program.refuse_report(refusal, report.line))?;
         }
+        Ok(())
     }
 
     // Takes some bytes, as long as nothing is in the way.
@@ -63,10 +62,10 @@ impl Progress<'_> {
 
     // The input has ended.
     fn end(&self) -> Result<(), Said> {
-        match self.reader.ended() {
-            Ok(()) => self.program.print(format_args!("{}", self.sums)),
-            Err(fault) => Err(self.say(fault)),
-        }
+        self.reader
+            .ended()
+            .map_err(|fault| say(self.program, fault))?;
+        self.program.print(format_args!("{}", self.sums))
     }
 }
 
@@ -104,7 +103,8 @@ Standard error    a line that is none of a report: its number, from 1, and what 
                   the report begins, and what it means: 23 the lost mask and the reasons disagree, or a reason is unknown,
                   19 a total would pass 2^64 - 1. Trouble: what can't be read or written.
 
-bin/totals ends with 0 when it is done, 1 when it refused, 2 for a wrong use or trouble.";
+bin/totals ends with 0 when it is done, 1 when it refused, 2 for a wrong use or trouble.
+";
 
 // What is in the way was said: bin/ gives the exit status by it.
 fn main(rt: HostRuntime) {

@@ -15,6 +15,15 @@ pub struct Report {
     pub receipt: Receipt,
 }
 
+// What a number of a report is.
+#[derive(Clone, Copy, Debug, PartialEq, Eq)]
+enum Part {
+    Number,
+    Lost,
+    Packet,
+    Reason,
+}
+
 // What was read: the line at hand, from 1; which of the report's numbers is at hand, and what its digits so far say, where there are any; the report so
 // far, in which each digit counts at once.
 #[derive(Clone, Copy)]
@@ -96,31 +105,39 @@ impl Reader {
         }
     }
 
-    // The packet whose line the number at hand stands in; 0 in the first line.
+    // What the number at hand is.
+    fn part(&self) -> Part {
+        match self.at {
+            0 => Part::Number,
+            1 => Part::Lost,
+            at if at % 2 == 0 => Part::Packet,
+            _ => Part::Reason,
+        }
+    }
+
+    // The packet whose line it stands in; 0 in the first line.
     fn packet(&self) -> usize
         ensures { result < 16 }
     {
         (self.at / 2).saturating_sub(1)
     }
 
-    // Whether a packet's number is at hand.
-    fn is_at_packet(&self) -> bool {
-        2 <= self.at && self.at % 2 == 0
+    // Whether a packet's number may begin so: it is the one due, or its first digit.
+    fn begins_packet(&self, value: u32) -> bool {
+        let due = self.packet() as u32;
+        value == due || value == 1 && 10 <= due
     }
 
-    // Puts the number at hand into the report, as far as its digits say it: a packet's may be the one due, or the first digit of it.
+    // Puts the number at hand into the report, as far as its digits say it; none where it can't be so.
     fn put(&mut self, value: u32) -> Option<()>
         ensures { self.new.line ≡ self.old.line }
     {
         let p = self.packet();
-        match self.at {
-            0 => self.report.receipt.number = value,
-            1 => self.report.receipt.lost = u16::try_from(value).ok()?,
-            _ if !self.is_at_packet() => {
-                self.report.receipt.reasons[p] = u8::try_from(value).ok()?;
-            }
-            _ if value != p as u32 && !(value == 1 && 10 <= p) => return None,
-            _ => {}
+        match self.part() {
+            Part::Number => self.report.receipt.number = value,
+            Part::Lost => self.report.receipt.lost = u16::try_from(value).ok()?,
+            Part::Packet => self.begins_packet(value).then_some(())?,
+            Part::Reason => self.report.receipt.reasons[p] = u8::try_from(value).ok()?,
         }
         self.value = Some(value);
         Some(())
@@ -128,9 +145,10 @@ impl Reader {
 
     // Whether the number at hand may end: it has digits and, where it is a packet's, is the one due.
     fn is_ready(&self) -> bool {
-        match self.value {
-            None => false,
-            Some(value) => !self.is_at_packet() || value == self.packet() as u32,
+        match (self.part(), self.value) {
+            (_, None) => false,
+            (Part::Packet, Some(value)) => value == self.packet() as u32,
+            _ => true,
         }
     }
 

@@ -6,6 +6,7 @@ mod coded;
 mod decisions;
 mod floors;
 mod packets;
+mod part;
 mod powers;
 mod print;
 mod rows;

@@ -1,8 +1,0 @@
-use Rattle.std.proofs.Common.{◌-◌, ◌≤◌}
-use Rattle.profile_text.proofs.show.places.Given as goal
-
-abbrev pub invariant-loop-n : goal.invariant-loop-n
-invariant-loop-n l = l.n ≤ 11
-
-abbrev pub decreases-loop-n : goal.decreases-loop-n
-decreases-loop-n l = 11 - l.n

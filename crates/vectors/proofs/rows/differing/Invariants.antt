@@ -1,6 +1,0 @@
--- No more places differ than were looked at.
-use Rattle.std.proofs.Common.{◌≤◌}
-use Rattle.vectors.proofs.rows.differing.Given as goal
-
-abbrev pub invariant-loop-i : goal.invariant-loop-i
-invariant-loop-i l = l.n ≤ l.i
