@@ -1,12 +1,15 @@
 -- Numbers of one byte and of four, in a list of bytes; such numbers read and stored turn by turn.
 use mathlib.Core.Path.{◌≡◌, refl, sym, ◌∙◌, ap}
-use mathlib.Core.List.{List, [], ◌∷◌}
+use mathlib.Core.List.{List, [], ◌∷◌, ◌++◌}
 use Prim.Native.Nat.{ℕ, suc, ◌+◌, ◌-◌, ◌*◌, ◌<◌, ◌≤◌}
 use native.Mathlib.Nat.{add-zero, sub-zero}
 use native.Mathlib.Numerals.{add-one, add-two, add-three, add-four}
 use native.Mathlib.Omega.{arith}
 use lib.ListN.{length, set, take, drop, drop_of_length-le}
 use lib.Seq.{drop-cons, drop-drop, take_all, sets}
+use Rattle.std.proofs.lemmas.List.Edits.{sets-eq}
+use Rattle.std.proofs.Common.{append_assoc}
+use Rattle.laws.specs.Parts.{put_part}
 use Rattle.rules.specs.Bits.{row}
 use Rattle.rules.specs.Profile.{number, words, word_bytes, all_bytes}
 use Rattle.profile.proofs.Words.{words-length}
@@ -76,3 +79,13 @@ module _ {s₀ : List ℕ} {at : ℕ} {l : List ℕ} where
 
   pub put-done : {s : List ℕ} {i : ℕ} → Putting s₀ at l s i → length l ≤ i → s ≡ sets s₀ at (all_bytes l)
   put-done h le = run_done h.run (rw (drop_of_length-le l le))
+
+-- ---- values that are copied in
+
+pub put-sets : {A : Type 0} (a e : ℕ) (s : List A) {ys : List A} (vs : List A) → ys ≡ vs → e ≡ a + length vs → e ≤ length s
+    → put_part a e s ys ≡ sets s a vs
+put-sets {A} a e s {ys} vs f q le =
+    let d : a + (e - a) ≡ a + length vs = omega arith in
+    let parts : sets s a vs ≡ take a s ++ (vs ++ drop (a + length vs) s) = sets-eq vs s a (omega arith) ∙ append_assoc (take a s) vs (drop (a + length vs) s) in
+    ap (λ (l : List A). take a s ++ (l ++ drop (e - a) (drop a s))) f
+    ∙ ap (λ (l : List A). take a s ++ (vs ++ l)) (drop-drop (e - a) a s ∙ ap (λ (n : ℕ). drop n s) d) ∙ sym parts
