@@ -8,3 +8,4 @@ pub mod Entries
 pub mod AtFault
 pub mod InRange
 pub mod RoundTrip
+pub mod FromFn

@@ -3,13 +3,13 @@ use mathlib.Core.Path.{◌≡◌, refl, sym, ◌∙◌, ap, subst}
 use mathlib.Core.Bool.{Bool, true, false, not}
 use mathlib.Core.List.{List, [], ◌∷◌}
 use Prim.Native.Nat.{ℕ, ◌+◌, ◌*◌, ◌-◌, ◌<◌, ◌≤◌}
-use native.Mathlib.Nat.{add-zero, add_assoc}
+use native.Mathlib.Nat.{add_assoc}
 use native.Mathlib.Numerals.{add-one}
 use native.Mathlib.Omega.{arith}
-use borrow.Author.Tests.{eq-eqb, ne_eqb, lt-ltb, le-ltb, ltb-false}
+use borrow.Author.Tests.{eq-eqb, ne_eqb, ltb-false}
 use lib.Dec.{eqb, ltb, eqb→eq}
-use lib.ListN.{length, take, drop, length-take, length-drop, drop_of_length-le}
-use lib.Seq.{drop-cons, drop-drop, get_or-drop}
+use lib.ListN.{length, take, drop, length-drop, drop_of_length-le}
+use lib.Seq.{drop-cons, drop-drop}
 use Rattle.laws.specs.Every.{every-at}
 use Rattle.rules.specs.Bits.{pick, row}
 use Rattle.rules.specs.Profile.{Field, fields, blank, ◌or◌, fault, fault_from, fault_of, twin_fault, only, walk, untwinned, reading, refused, unless}
@@ -21,55 +21,7 @@ use Rattle.profile.specs.declared.fields.Field as code
 use Rattle.std.proofs.Common.{get_or}
 use Rattle.profile.specs.Reader.{Step, refused_at, taken}
 
--- ---- what a header says, test by test
-
-module _ (s : List ℕ) (at : ℕ) where
-  row_at : (k : ℕ) → row (drop at s) k ≡ row s (at + k)
-  row_at k = get_or-drop at s k 0
-
-  pub ending-none : length s ≤ at → 0 ≡ ending (drop at s)
-  ending-none h = rw (drop_of_length-le s h)
-
-  module _ (lt : at < length s) where
-    left : eqb (length (drop at s)) 0 ≡ false
-    left = rw length-drop (ne_eqb (length s - at) 0 (omega arith))
-
-    pub ending-cut : length s - at < 3 → 1 ≡ ending (drop at s)
-    ending-cut h = rw (left, length-drop at s, lt-ltb (length s - at) 3 h)
-
-    pub ending-more : 3 ≤ length s - at → 2 ≡ ending (drop at s)
-    ending-more h = rw (left, length-drop at s, le-ltb (length s - at) 3 h)
-
-  module _ (tag due : ℕ) where
-    pub heading-none : length s ≤ at → 5 ≡ heading tag due (drop at s)
-    heading-none h = rw (drop_of_length-le s h)
-
-    module _ (lt : at < length s) where
-      pub heading-cut : length s - at < 3 → 1 ≡ heading tag due (drop at s)
-      heading-cut h = rw (left lt, length-drop at s, lt-ltb (length s - at) 3 h)
-
-      module _ (whole : 3 ≤ length s - at) where
-        past : heading tag due (drop at s)
-            ≡ pick (not (eqb (row s at) tag)) 2
-            (pick (not (eqb (row s (at + 1) * 256 + row s (at + 2)) due)) 3 (pick (ltb (length s - at) (3 + due)) 1 0))
-        past = rw (left lt, length-drop at s, le-ltb (length s - at) 3 whole, row_at 0, row_at 1, row_at 2, add-zero at)
-
-        pub heading-tag : (row s at ≡ tag → ⊥) → 2 ≡ heading tag due (drop at s)
-        heading-tag ne = sym (past ∙ rw (ne_eqb (row s at) tag ne))
-
-        module _ (t : row s at ≡ tag) where
-          pub heading-length : (row s (at + 1) * 256 + row s (at + 2) ≡ due → ⊥) → 3 ≡ heading tag due (drop at s)
-          heading-length ne = sym (past ∙ rw (eq-eqb (row s at) tag t, ne_eqb (row s (at + 1) * 256 + row s (at + 2)) due ne))
-
-          module _ (d : row s (at + 1) * 256 + row s (at + 2) ≡ due) where
-            last : heading tag due (drop at s) ≡ pick (ltb (length s - at) (3 + due)) 1 0
-            last = past ∙ rw (eq-eqb (row s at) tag t, eq-eqb (row s (at + 1) * 256 + row s (at + 2)) due d)
-
-            pub heading-short : length s - at - 3 < due → 1 ≡ heading tag due (drop at s)
-            heading-short h = sym (last ∙ rw (lt-ltb (length s - at) (3 + due) (omega arith)))
-
-            pub heading-whole : due ≤ length s - at - 3 → 0 ≡ heading tag due (drop at s)
-            heading-whole h = sym (last ∙ rw (le-ltb (length s - at) (3 + due) (omega arith)))
+-- ---- what a header says
 
 -- the five tests of a header, as the number that they give
 abbrev said : Bool → Bool → Bool → Bool → Bool → ℕ
@@ -170,9 +122,6 @@ module _ {s : List ℕ} {p : Profile} {at i due n : ℕ} (h : Judged s p at i du
     pub value_room : at + 3 + due ≤ length s
     value_room = omega (arith, heading-room (i + 1) due (drop at s) (sym h.says ∙ z), length-drop at s)
 
-    pub value-due : length value ≡ (field i).due p
-    value-due = simp (length-take, length-drop) (omega (arith, value_room))
-
     module _ {q : Profile} (w : q ≡ (field i).with p value) {a : Answer} (f : a ≡ fault_of (field i) at q) where
       valued : taken i p s at ≡ pick (eqb a.number 0) (record { answer = a; at = at + 3 + due; profile = q }) (refused_at a at p)
       valued = judged q w ∙ rw (eq-eqb n 0 z, f)
@@ -260,9 +209,6 @@ pub record Finding (p : Profile) (at i : ℕ) : Type 0 where
   pub within : i ≤ many
   pub room : at ≤ 300 * i
   pub rest : fault_from fields 0 p ≡ fault_from (drop i fields) at p
-
-pub find-start : (p : Profile) → Finding p 0 0
-find-start p = record { within = omega arith; room = omega arith; rest = refl }
 
 module _ {p : Profile} {at i : ℕ} (h : Finding p at i) where
   module _ (lt : i < many) {a : Answer} (e : a ≡ fault_of (field i) at p) where

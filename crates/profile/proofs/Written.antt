@@ -3,7 +3,7 @@ use mathlib.Core.Path.{◌≡◌, refl, ◌∙◌, ap, subst}
 use mathlib.Core.List.{List, [], ◌∷◌, ◌++◌}
 use Prim.Native.Nat.{ℕ, zero, suc, ◌+◌, ◌*◌, ◌/◌, ◌%◌, ◌<◌, ◌≤◌}
 use native.Mathlib.Omega.{arith}
-use lib.ListN.{length, take, drop, replicate, length-append, drop_of_length-le}
+use lib.ListN.{length, take, drop, replicate, length-append}
 use lib.Seq.{length-take-le, sets}
 use Rattle.rules.specs.Profile.{Field, fault, fields, field_bytes, faultless, largest, written, writing}
 use borrow.Author.Tests.{eq-eqb, ne_eqb}
@@ -14,7 +14,7 @@ use Rattle.profile.specs.Fields.{field, many}
 use Rattle.rules.specs.Profile.{Shape}
 use Rattle.profile.proofs.Words.{bytes-length}
 use Rattle.profile.proofs.Entries.{slots_most}
-use Rattle.laws.specs.Run.{Run, run_start, run_more, run_done, sets_front}
+use Rattle.laws.specs.Run.{Run, run_start, run_more, sets_front}
 use Rattle.profile.proofs.Walk.{fields_at, tag_at}
 
 -- ---- lengths
@@ -72,11 +72,6 @@ module _ {s₀ : List ℕ} {p : Profile} {s : List ℕ} {at i : ℕ} (h : Storin
           within = omega arith;
           run = run_more ((field i).bytes p) (run_more head h.run next e₁ refl) refl e₂ (omega (arith, bytes-due i p z lt, d));
         }
-
-  pub store-done : many ≤ i → (at ≡ length (written p)) × (s ≡ sets s₀ 0 (written p))
-  store-done le =
-      let left : field_bytes (drop i fields) p ≡ [] = rw (drop_of_length-le fields le) in
-      (omega (arith, h.run.size, ap length left), run_done h.run left)
 
 -- ---- the answer
 

@@ -11,7 +11,7 @@ use rules::Refusal;
 fn pair(b0: u8, b1: u8) -> usize
     ensures { result ≡ b0 * 256 + b1 }
 {
-    b0 as usize * 256 + b1 as usize
+    u16::from_be_bytes([b0, b1]) as usize
 }
 
 // Whether a whole field with this tag and this length stands at a position; else the refusal: nothing left, header cut, tag, length, value cut.
@@ -55,6 +55,5 @@ pub(crate) fn put(s: &mut [u8], at: usize, tag: u8, due: usize)
     ensures { s.new ≡ sets s.old at (tag ∷ due / 256 ∷ due % 256 ∷ []) }
 {
     s[at] = tag;
-    s[at + 1] = (due / 256) as u8;
-    s[at + 2] = (due % 256) as u8;
+    s[at + 1..at + 3].copy_from_slice(&(due as u16).to_be_bytes());
 }

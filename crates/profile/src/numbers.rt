@@ -1,50 +1,43 @@
 // Numbers in bytes, high byte first: read from a field's value, and stored.
-ghost use Rattle.std.specs.Prelude.{◌≡◌, ◌++◌, ◌+◌, ◌-◌, ◌*◌, ◌≤◌, length, replicate};
+ghost use Rattle.std.specs.Prelude.{◌≡◌, ◌++◌, ◌+◌, ◌-◌, ◌*◌, ◌≤◌, length, take, drop, replicate};
 ghost use Rattle.std.specs.Float.Ieee as Ieee;
 ghost use Rattle.std.specs.Float.{binary32};
 ghost use Rattle.std.proofs.lemmas.List.Edits.{sets};
-ghost use Rattle.rules.specs.Profile.{all_bytes, number, word_bytes, words};
+ghost use Rattle.rules.specs.Profile.{all_bytes, number, word_bytes, words as words_of};
 ghost use Rattle.rules.specs.Modes.{slots as slots_of};
 
-// A number of four bytes.
-fn word(b0: u8, b1: u8, b2: u8, b3: u8) -> u32
-    ensures { result ≡ ((b0 * 256 + b1) * 256 + b2) * 256 + b3 }
+use std::array;
+
+// The number whose four bytes begin at a place.
+fn word(s: &[u8], at: usize) -> u32
+    requires { at + 4 ≤ length s.now }
+    ensures { result ≡ number (take 4 (drop at s.now)) }
 {
-    ((b0 as u32 * 256 + b1 as u32) * 256 + b2 as u32) * 256 + b3 as u32
+    u32::from_be_bytes([s[at], s[at + 1], s[at + 2], s[at + 3]])
 }
 
-// As many numbers of four bytes as there is room for.
-fn fill(room: &mut [u32], s: &[u8])
-    requires { 4 * length room.old ≤ length s.now }
-    ensures { room.new ≡ words (length room.old) s.now }
+// The first n numbers of four bytes each, and zeros after them.
+fn words<const N: usize>(s: &[u8], n: usize) -> [u32; N]
+    requires { (4 * n ≤ length s.now) × (n ≤ N) }
+    ensures { result ≡ words_of n s.now ++ replicate (N - n) 0 }
 {
-    let mut i = 0;
-    while i < room.len() {
-        let at = 4 * i;
-        room[i] = word(s[at], s[at + 1], s[at + 2], s[at + 3]);
-        i += 1;
-    }
+    array::from_fn(|i| if i < n { word(s, 4 * i) } else { 0 })
 }
 
 // The masks in field 1's value.
 pub(crate) fn masks_of(s: &[u8]) -> [u32; 8]
     requires { length s.now ≡ 32 }
-    ensures { result ≡ words 8 s.now }
+    ensures { result ≡ words_of 8 s.now }
 {
-    let mut masks = [0u32; 8];
-    fill(&mut masks, s);
-    masks
+    words(s, 8)
 }
 
 // The seeds in field 5's value, and zeros after them.
 pub(crate) fn seeds_of(mode: u8, s: &[u8]) -> [u32; 48]
     requires { length s.now ≡ 4 * slots_of mode }
-    ensures { result ≡ words (slots_of mode) s.now ++ replicate (48 - slots_of mode) 0 }
+    ensures { result ≡ words_of (slots_of mode) s.now ++ replicate (48 - slots_of mode) 0 }
 {
-    let mut seeds = [0u32; 48];
-    let n = modes::slot_count(mode);
-    fill(&mut seeds[..n], s);
-    seeds
+    words(s, modes::slot_count(mode))
 }
 
 // The number in a value of one byte.
@@ -68,20 +61,16 @@ pub(crate) fn put_word(s: &mut [u8], at: usize, x: u32)
     requires { at + 4 ≤ length s.old }
     ensures { s.new ≡ sets s.old at (word_bytes x) }
 {
-    s[at] = (x / 16_777_216 % 256) as u8;
-    s[at + 1] = (x / 65_536 % 256) as u8;
-    s[at + 2] = (x / 256 % 256) as u8;
-    s[at + 3] = (x % 256) as u8;
+    s[at..at + 4].copy_from_slice(&x.to_be_bytes());
 }
 
 // Numbers of four bytes, stored one after another.
-pub(crate) fn put_words(s: &mut [u8], at: usize, l: &[u32])
+pub(crate) fn put_words(s: &mut [u8], mut at: usize, l: &[u32])
     requires { at + 4 * length l.now ≤ length s.old }
     ensures { s.new ≡ sets s.old at (all_bytes l.now) }
 {
-    let mut i = 0;
-    while i < l.len() {
-        put_word(s, at + 4 * i, l[i]);
-        i += 1;
+    for x in l {
+        put_word(s, at, *x);
+        at += 4;
     }
 }

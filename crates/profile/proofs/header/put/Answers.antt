@@ -1,14 +1,11 @@
--- Three stores, at places that follow one another.
+-- The tag, and the length's two bytes copied in after it.
+use Rattle.std.proofs.Common.{◌≡◌, ◌∷◌, [], ◌∙◌, ◌/◌, ◌%◌, length-set, arith}
 use native.Mathlib.Numerals.{towards_suc}
-use native.Mathlib.Omega.{arith}
-use lib.ListN.{length-set}
+use Rattle.profile.proofs.Values.{put-sets}
 use Rattle.profile.proofs.header.put.Goals as goal
 
-pub bounds-s-at-2 : goal.bounds-s-at-2
-bounds-s-at-2 c = simp length-set (omega arith)
-
-pub bounds-s-at-3 : goal.bounds-s-at-3
-bounds-s-at-3 c = simp length-set (omega arith)
-
 pub returns : goal.returns
-returns c = simp towards_suc
+returns c =
+    let due = c.args.due in
+    let high : due / 256 % 256 ≡ due / 256 = omega arith in
+    put-sets _ _ _ (due / 256 ∷ due % 256 ∷ []) (c.copy_from_slice.ensures.after ∙ c.to_be_bytes.ensures ∙ rw high) (omega arith) (simp length-set (omega arith)) ∙ simp towards_suc

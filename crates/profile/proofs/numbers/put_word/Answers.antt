@@ -1,17 +1,8 @@
--- Four stores, at places that follow one another.
-use native.Mathlib.Numerals.{towards_suc}
-use native.Mathlib.Omega.{arith}
-use lib.ListN.{length-set}
+-- The four bytes, copied in.
+use Rattle.std.proofs.Common.{◌∙◌, refl}
+use Rattle.rules.specs.Profile.{word_bytes}
+use Rattle.profile.proofs.Values.{put-sets}
 use Rattle.profile.proofs.numbers.put_word.Goals as goal
 
-pub bounds-s-at-2 : goal.bounds-s-at-2
-bounds-s-at-2 c = simp length-set (omega arith)
-
-pub bounds-s-at-3 : goal.bounds-s-at-3
-bounds-s-at-3 c = simp length-set (omega arith)
-
-pub bounds-s-at-4 : goal.bounds-s-at-4
-bounds-s-at-4 c = simp length-set (omega arith)
-
 pub returns : goal.returns
-returns c = simp towards_suc
+returns c = put-sets _ _ _ (word_bytes c.args.x) (c.copy_from_slice.ensures.after ∙ c.to_be_bytes.ensures) refl c.requires
