@@ -19,9 +19,6 @@ bounds-all-from c =
     let e = c.args.self.now in
     rw c.from.ensures (place-read-lt e.mode e.places e.placed c.loop-i.i (omega arith))
 
-pub bounds-out-i : goal.bounds-out-i
-bounds-out-i c = omega (arith, c.loop-i.invariant.long)
-
 pub loop-i-preserved : goal.loop-i-preserved
 loop-i-preserved c =
     let l = c.loop-i in

@@ -24,12 +24,6 @@ pub loop-p-init : goal.loop-p-init
 loop-p-init c =
     let a = c.args in (omega arith, coded_none a.mode c.packet_bits-n.result a.block)
 
-pub overflow_mul-at : goal.overflow_mul-at
-overflow_mul-at c = omega (arith, room (goal.at.overflow_mul-at c).In-loop-p)
-
-pub overflow_add-at : goal.overflow_add-at
-overflow_add-at c = omega (arith, room (goal.at.overflow_add-at c).In-loop-p)
-
 pub code-requires : goal.code-requires
 code-requires c =
     let l = c.loop-p in

@@ -50,13 +50,6 @@ loop-p-init c =
     let a = c.args in
     (omega arith, weighed-none a.mode a.marks (row a.bits))
 
-pub overflow_mul-at : goal.overflow_mul-at
-overflow_mul-at c = omega (arith, within c.packet_bits-n.result c.loop-p.p (omega arith) (omega arith))
-
-pub overflow_add-at : goal.overflow_add-at
-overflow_add-at c =
-    omega (arith, within c.packet_bits-n.result c.loop-p.p (omega arith) (omega arith))
-
 pub weigh-requires : goal.weigh-requires
 weigh-requires c =
     let n = c.packet_bits-n in
