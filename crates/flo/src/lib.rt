@@ -5,17 +5,7 @@ ghost use Rattle.std.specs.Prelude.{◌≡◌};
 ghost use Rattle.rules.specs.Answers.{answer_of};
 ghost use Rattle.flo.specs.Calls.{FloSend, FloSendSymbol, FloReceive, FloFeed, FloAsk, FloReadProfile, FloWriteProfile, FloParity, FloCompare, FloAdd};
 
-use rules::{Profile, Receipt, Refusal};
-
-// The number of an answer.
-fn number_of<T: Drop>(ended: Result<T, Refusal>) -> u32
-    ensures { result ≡ (answer_of ended).number }
-{
-    match ended {
-        Ok(_) => 0,
-        Err(refusal) => refusal.number(),
-    }
-}
+use rules::{Profile, Receipt, Refusal, number_of};
 
 // Hands an answer's place over by the caller's pointer, and its number as the answer.
 fn place_over(ended: Result<(), Refusal>, place: &mut usize) -> u32

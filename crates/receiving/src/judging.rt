@@ -11,7 +11,7 @@ ghost use Rattle.receiving.specs.Steps.{KeptBits};
 
 use block::scramble;
 use modes::block_bits;
-use rules::{Profile, Receipt, Refusal};
+use rules::{Profile, Receipt, Refusal, number_of};
 
 // Restores the lost packets and writes the data, or answers why not.
 fn deliver(k: u8, lost: u16, block: [u8; 1952], data: &mut [u8]) -> Result<(), Refusal>
@@ -25,16 +25,6 @@ fn deliver(k: u8, lost: u16, block: [u8; 1952], data: &mut [u8]) -> Result<(), R
     Ok(())
 }
 
-// The number of an answer that names no fault of the profile.
-fn number(delivered: Result<(), Refusal>) -> u32
-    ensures { result ≡ (answer_of delivered).number }
-{
-    match delivered {
-        Ok(()) => 0,
-        Err(refusal) => refusal.number(),
-    }
-}
-
 // Judges a block's bits, still scrambled, and delivers the data.
 fn judge(p: Profile, marks: u16, bits: [u8; 48000], data: &mut [u8]) -> Receipt
     requires { T (faultless p) × (length «data».old ≡ 122 * p.k) }
@@ -46,7 +36,7 @@ fn judge(p: Profile, marks: u16, bits: [u8; 48000], data: &mut [u8]) -> Receipt
     let block = v.block;
     let reasons = v.reasons;
     Receipt {
-        number: number(deliver(p.k, v.lost, block, data)),
+        number: number_of(deliver(p.k, v.lost, block, data)),
         place: 0,
         lost: v.lost,
         reasons,

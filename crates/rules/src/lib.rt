@@ -6,6 +6,8 @@ ghost use Rattle.std.specs.Prelude.{◌≡◌, ◌≤◌, take};
 
 mod numbers;
 
+pub use numbers::number_of;
+
 // The rates of the turbo code.
 #[derive(Clone, Copy)]
 pub enum Rate {
@@ -35,7 +37,7 @@ pub struct PointOf {
     pub point: usize,
 }
 
-// The profile as a value: the unused seeds are zero.
+// The profile as a value: the unused seeds are zero. The mode stays a number, since C may give any: one that is no mode is a fault of the profile.
 #[derive(Clone, Copy)]
 pub struct Profile {
     pub masks: [u32; 8],
@@ -121,7 +123,8 @@ impl Written {
     }
 }
 
-// What receiving answers: bit p of the lost mask and reason p are packet p's. The place is an answer's.
+// What receiving answers: bit p of the lost mask and reason p are packet p's. The place is an answer's. It stays in numbers, and is no Result: mask and reasons
+// come with refusals 9 and 10 too, C hands the numbers over, and a receipt that is added may have any.
 #[derive(Clone, Copy)]
 pub struct Receipt {
     pub number: u32,

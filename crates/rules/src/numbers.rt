@@ -1,6 +1,6 @@
 // A refusal's number and place, and what the documents say of it.
 ghost use Rattle.std.specs.Prelude.{◌≡◌};
-ghost use Rattle.rules.specs.Answers.{refusal_number, refusal_place, refusal_answer, outer_number, reason_number};
+ghost use Rattle.rules.specs.Answers.{answer_of, refusal_number, refusal_place, refusal_answer, outer_number, reason_number};
 ghost use Rattle.rules.specs.Block.{silence};
 
 use super::{Misfit, OuterError, Reason, Receipt, Refusal};
@@ -51,6 +51,16 @@ impl Refusal {
             Refusal::Twins(slot) => slot,
             _ => 0,
         }
+    }
+}
+
+// The number of how a call ended: 0 where it is done.
+pub fn number_of<T: Drop>(ended: Result<T, Refusal>) -> u32
+    ensures { result ≡ (answer_of ended).number }
+{
+    match ended {
+        Ok(_) => 0,
+        Err(refusal) => refusal.number(),
     }
 }
 

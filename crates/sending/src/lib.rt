@@ -37,7 +37,8 @@ fn sent_bits(p: Profile, data: &[u8]) -> [u8; 48000]
     bits
 }
 
-// All symbols of the block that has these bits; each is one of the grid, so none is refused.
+// All symbols of the block that has these bits; each is one of the grid, so none is refused. By the symbol's number: of what is written through
+// chunks_exact_mut nothing would be known.
 fn write_grid(mode: u8, level: f32, bits: &[u8], firsts: &mut [f32], seconds: &mut [f32])
     requires { (length bits.now ≡ slot_bits mode * slots mode)
         × (length firsts.old ≡ 4096 * symbols mode) × (length seconds.old ≡ 4096 * symbols mode) }

@@ -19,5 +19,5 @@ returns c =
     scrambled-judged a.p a.marks a.bits _ plain
     (weighed-judged a.p a.marks _ c.judge_block-v.result.block c.judge_block-v.ensures
     (subst (λ (n : ℕ). Delivered a.p.k c.judge_block-v.result.lost (λ p j. column c.judge_block-v.result.block j p) a.«data».now c.deliver.new.«data» n)
-    (sym c.number.ensures) c.deliver.ensures)
+    (sym c.number_of.ensures) c.deliver.ensures)
     refl)
