@@ -2,7 +2,6 @@
 -- Of the places and interlaces only the eight facts at the head are used.
 use mathlib.Core.Path.{◌≡◌, refl, sym, ◌∙◌, ap, ap₂, subst}
 use mathlib.Core.Bool.{◌&&◌}
-use mathlib.Core.List.{List}
 use Prim.Native.Nat.{ℕ, ◌+◌, ◌-◌, ◌*◌, ◌/◌, ◌%◌, ◌<◌, ◌≤◌}
 use native.Mathlib.Decide.{ℕ_discrete, dec_lt}
 use native.Mathlib.Omega.{arith}
@@ -17,9 +16,7 @@ use Rattle.rules.specs.Cells.{Belongs, outside, place, belongs, carried_by, carr
 use Rattle.std.specs.Prelude.{Option, Some, None}
 use Rattle.rules.specs.declared.PointOf.{PointOf}
 use Rattle.rules.proofs.Tables.{order, back, inverse, places-checked}
-use lib.ListN.{get_or}
 use Rattle.laws.specs.Every.{every-at, first-at}
-use Rattle.laws.specs.Holds.{Holds}
 
 -- ---- places are a permutation of 0 to 499, as the rules' own tests say
 

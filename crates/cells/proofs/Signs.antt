@@ -7,7 +7,7 @@ use native.Mathlib.Omega.{arith}
 use lib.Dec.{eqb}
 use lib.Ieee.{Float, nan, neg}
 use lib.ListN.{get_or, set, replicate, length-replicate, get_or-replicate}
-use Rattle.rules.specs.Bits.{pick, row}
+use Rattle.rules.specs.Bits.{pick}
 use Rattle.rules.specs.Points.{signed, sized, triple, part, point_of, zero_part}
 use Rattle.laws.specs.Holds.{holds_put}
 use Rattle.laws.specs.Lists.{any-default}

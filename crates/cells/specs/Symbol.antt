@@ -1,5 +1,5 @@
 -- One symbol's cells from a block's bits.
-use Rattle.std.specs.Prelude.{◌≡◌, Bool, true, false, ◌&&◌, List, ℕ, ◌+◌, ◌*◌, ◌/◌, ◌%◌, eqb, ltb, Float, length, get_or}
+use Rattle.std.specs.Prelude.{◌≡◌, Bool, true, false, ◌&&◌, List, ℕ, ◌+◌, ◌*◌, ◌/◌, ◌%◌, eqb, ltb, Float, length}
 use Rattle.rules.specs.Bits.{row}
 use Rattle.rules.specs.Modes.{part_bits, slots, slot_bits, symbols}
 use Rattle.rules.specs.Points.{signed, sized, zero_part, first_part, second_part}

@@ -24,7 +24,11 @@ pub fn point_of(mode: u8, level: f32, bits: [u8; 4]) -> Point
     ensures { result ≡ point_of (part_bits mode) level (row bits) }
 {
     let parts = Parts::of(level);
-    if modes::part_bits(mode) == 1 { parts.point::<1>(&bits, 0) } else { parts.point::<2>(&bits, 0) }
+    if modes::part_bits(mode) == 1 {
+        parts.point::<1>(&bits, 0)
+    } else {
+        parts.point::<2>(&bits, 0)
+    }
 }
 
 // Whether a symbol is one of the grid.
@@ -38,7 +42,11 @@ fn in_grid(mode: u8, symbol: usize) -> bool
 pub fn carried(mode: u8, symbol: usize, c: usize) -> Option<PointOf>
     ensures { result ≡ rule.carried mode symbol c }
 {
-    if in_grid(mode, symbol) { Carrier::of(mode).cell(symbol, c) } else { None }
+    if in_grid(mode, symbol) {
+        Carrier::of(mode).cell(symbol, c)
+    } else {
+        None
+    }
 }
 
 // The two parts of a cell, zeros of a silent one. No From: Cell and Point are another crate's.

@@ -32,21 +32,17 @@ impl<const W: usize> Pen<W> {
     // Where the bits of a point begin in a block.
     fn first_bit(&self, p: PointOf) -> usize
         requires { (p.slot < figures.slots self.now.carrier.mode) × (p.point < 500) }
-        ensures {
-            let m = self.now.carrier.mode in
+        ensures { let m = self.now.carrier.mode in
             (result ≡ figures.slot_bits m * p.slot + 2 * figures.part_bits m * p.point)
-            × (result + 2 * figures.part_bits m ≤ figures.slot_bits m * figures.slots m)
-        }
+            × (result + 2 * figures.part_bits m ≤ figures.slot_bits m * figures.slots m) }
     {
         self.slot_bits * p.slot + 2 * W * p.point
     }
 
     // The cell of a symbol whose block has these scrambled bits.
     pub(crate) fn cell(&self, bits: &[u8], symbol: usize, c: usize) -> Cell
-        requires {
-            let m = self.now.carrier.mode in
-            (symbol < 4096) × (length bits.now ≡ figures.slot_bits m * figures.slots m)
-        }
+        requires { let m = self.now.carrier.mode in
+            (symbol < 4096) × (length bits.now ≡ figures.slot_bits m * figures.slots m) }
         ensures { result ≡ symbol_cell self.now.carrier.mode self.now.parts.level bits.now symbol c }
     {
         match self.carrier.cell(symbol, c) {

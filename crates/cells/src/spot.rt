@@ -17,13 +17,19 @@ impl Spot {
     pub(crate) fn of(c: usize) -> Option<Spot>
         ensures { belonging result ≡ belongs c }
     {
-        if c < 48 || c == 2048 || c > 4048 {
+        if c < 48 || c > 4048 || c == 2048 {
             return None;
         }
-        let first = if c % 8 == 0 && c > 2048 { 56 } else { 48 };
+        let interlace = c % 8;
+        if interlace != 0 || c < 2048 {
+            return Some(Spot {
+                interlace,
+                place: (c - 48) / 8,
+            });
+        }
         Some(Spot {
-            interlace: c % 8,
-            place: (c - first) / 8,
+            interlace,
+            place: (c - 56) / 8,
         })
     }
 }

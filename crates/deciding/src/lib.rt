@@ -23,7 +23,11 @@ pub fn decide(mode: u8, level: f32, floor: f32, part: f32) -> u8
     ensures { (result ≡ points.decide (part_bits mode) level floor part) × (result < 5) }
 {
     let lines = Lines { level, floor };
-    if modes::part_bits(mode) == 1 { lines.part::<1>(part) } else { lines.part::<2>(part) }
+    if modes::part_bits(mode) == 1 {
+        lines.part::<1>(part)
+    } else {
+        lines.part::<2>(part)
+    }
 }
 
 pub fn decide_point(mode: u8, level: f32, floor: f32, p: Point) -> Decision

@@ -68,7 +68,11 @@ impl Lines {
         requires { (1 ≤ W) × (W ≤ 2) }
         ensures { (result ≡ points.decide W self.level self.floor part) × (result < choices W) }
     {
-        if W == 1 { self.sign(part, 2) } else { self.size_and_sign(part) }
+        if W == 1 {
+            self.sign(part, 2)
+        } else {
+            self.size_and_sign(part)
+        }
     }
 
     // A cell's decisions in one byte.

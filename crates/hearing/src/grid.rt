@@ -32,7 +32,11 @@ fn cell_of(k: usize, place: usize) -> usize
     requires { (k < 8) × (place < 500) }
     ensures { (result ≡ rule.cell_of k place) × (result < 4096) }
 {
-    if k == 0 && place >= 250 { 56 + 8 * place } else { 48 + k + 8 * place }
+    if k == 0 && place >= 250 {
+        56 + 8 * place
+    } else {
+        48 + k + 8 * place
+    }
 }
 
 impl Grid<'_> {

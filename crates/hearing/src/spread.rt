@@ -12,7 +12,11 @@ fn bit_of<const W: usize>(d: u8, k: usize) -> u8
     requires { (1 ≤ W) × (W ≤ 2) × (k < W) }
     ensures { result ≡ bit_in W d k }
 {
-    if d == 1 << W { 2 } else { (d >> (W - 1 - k)) % 2 }
+    if d == 1 << W {
+        2
+    } else {
+        (d >> (W - 1 - k)) % 2
+    }
 }
 
 // The first or the second of a byte's two decisions.
@@ -21,7 +25,11 @@ fn decision_in<const W: usize>(byte: u8, n: usize) -> u8
     ensures { result ≡ decision_in W byte n }
 {
     let choices = (1u8 << W) + 1;
-    if n == 0 { byte % choices } else { byte / choices }
+    if n == 0 {
+        byte % choices
+    } else {
+        byte / choices
+    }
 }
 
 // The bits of both.

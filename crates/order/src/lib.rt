@@ -8,7 +8,6 @@ mod table;
 
 use place_table::PLACES;
 use point_table::POINTS;
-
 pub use table::{Order, PlaceOf, PointAt, Table};
 
 pub fn places() -> Table<PlaceOf> {

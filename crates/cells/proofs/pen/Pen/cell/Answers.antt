@@ -1,9 +1,9 @@
 -- `Pen::cell` meets its contract: the point that a cell carries is one of the block's, so its bits are within the list.
 use mathlib.Core.Path.{sym, ◌∙◌, ap}
-use Prim.Native.Nat.{ℕ, ◌+◌, ◌*◌, ◌<◌}
+use Prim.Native.Nat.{ℕ, ◌+◌, ◌*◌}
 use native.Mathlib.Omega.{arith}
 use Rattle.rules.specs.Bits.{row}
-use Rattle.rules.specs.Modes.{part_bits, slots}
+use Rattle.rules.specs.Modes.{part_bits}
 use Rattle.rules.specs.Points.{point_of}
 use Rattle.rules.specs.Block.{cell_for}
 use Rattle.rules.specs.declared.Cell.TheVariants.{Carries}

@@ -8,8 +8,9 @@ use Rattle.deciding.proofs.lines.Lines.size_and_sign.Goals as goal
 
 pub returns : goal.returns
 returns c =
-    let s = c.args.self in
-    (c.min.ensures
-    ∙ ap (λ (n : ℕ). min n 4) (ap₂ ◌+◌ c.size.ensures.0 c.sign.ensures.0)
-    ∙ decide-min s.level s.floor c.args.part,
-    omega (arith, c.min.ensures, min-le_right (c.size.result + c.sign.result) 4))
+    let s = c.args.self in (
+      c.min.ensures
+          ∙ ap (λ (n : ℕ). min n 4) (ap₂ ◌+◌ c.size.ensures.0 c.sign.ensures.0)
+          ∙ decide-min s.level s.floor c.args.part,
+      omega (arith, c.min.ensures, min-le_right (c.size.result + c.sign.result) 4),
+    )

@@ -23,9 +23,12 @@ returns-then-part_bits-eq1 c =
     c.slot_bytes-bytes.ensures.each c.spread.ensures
 
 pub spread-requires-else-part_bits-eq1 : goal.spread-requires-else-part_bits-eq1
-spread-requires-else-part_bits-eq1 c =
-    (omega arith, omega arith, c.slot_bytes-bytes.ensures.long,
-    omega (arith, (figures c.args.self.now.mode).slot, two (goal.at.spread-requires-else-part_bits-eq1 c).Else-part_bits-eq1))
+spread-requires-else-part_bits-eq1 c = (
+  omega arith,
+  omega arith,
+  c.slot_bytes-bytes.ensures.long,
+  omega (arith, (figures c.args.self.now.mode).slot, two (goal.at.spread-requires-else-part_bits-eq1 c).Else-part_bits-eq1),
+)
 
 pub returns-else-part_bits-eq1 : goal.returns-else-part_bits-eq1
 returns-else-part_bits-eq1 c =

@@ -3,10 +3,9 @@ use mathlib.Core.Path.{ap}
 use Prim.Native.Nat.{ℕ, ◌+◌, ◌*◌, ◌/◌}
 use native.Mathlib.Omega.{arith}
 use Rattle.rules.specs.Bits.{row}
-use Rattle.laws.specs.Filled.{holds-new, holds-next, holds-whole}
+use Rattle.laws.specs.Filled.{holds-new, holds-next}
 use Rattle.hearing.specs.Reading.{point_byte}
 use Rattle.cells.proofs.Within.{slots-lt}
-use Rattle.hearing.proofs.Reading.{grid-cell-lt}
 use Rattle.hearing.proofs.grid.Grid.slot_bytes.Goals as goal
 
 pub overflow_mul-from : goal.overflow_mul-from
