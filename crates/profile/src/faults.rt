@@ -27,8 +27,6 @@ pub(crate) fn mode_fault(at: usize, mode: u8, level: f32) -> Result<(), Refusal>
 pub(crate) fn twin_fault(p: Profile) -> Result<(), Refusal>
     ensures { answer_of result ≡ twin_fault p }
 {
-    let masks = p.masks;
-    let seeds = p.seeds;
-    let t = twins::first_repeat(p.mode, masks, seeds);
+    let t = twins::first_repeat(p.mode, p.masks, p.seeds);
     unless(modes::slot_count(p.mode) <= t, Refusal::Twins(t))
 }

@@ -13,6 +13,7 @@ mod numbers;
 mod reader;
 
 use fields::FIELDS;
+use reader::Reader;
 use rules::{Profile, Refusal, Written};
 
 // The largest size of a profile.
@@ -49,13 +50,13 @@ pub fn read(bytes: &[u8]) -> Result<Profile, Refusal>
     ensures { reading_of result ≡ reading bytes.now }
 {
     let mut p = blank();
-    let mut at = 0;
+    let mut reader = Reader::new(bytes);
     for field in FIELDS {
-        let taken = reader::field_at(bytes, at, field, p)?;
+        let taken = reader.next(field, p)?;
         p = taken.profile;
-        at = taken.at;
+        reader = reader.moved(taken.at);
     }
-    header::ending(bytes, at)?;
+    header::ending(reader.src, reader.at)?;
     faults::twin_fault(p)?;
     Ok(p)
 }

@@ -34,30 +34,25 @@ pub(crate) fn take(s: &[u8], at: usize, field: Field, p: Profile) -> Result<Take
     Ok(Taken { at: next, profile })
 }
 
-// At the start of a profile.
-pub(crate) fn new<'a>(src: &'a [u8]) -> Reader<'a>
-    ensures { (result.src ≡ src.entry) × (result.at ≡ 0) }
-{
-    Reader { src, at: 0 }
-}
+impl<'a> Reader<'a> {
+    // At the start of a profile.
+    pub(crate) fn new(src: &'a [u8]) -> Reader<'a>
+        ensures { (result.src ≡ src.entry) × (result.at ≡ 0) }
+    {
+        Reader { src, at: 0 }
+    }
 
-// At another position of the same profile.
-pub(crate) fn moved<'a>(r: Reader<'a>, at: usize) -> Reader<'a>
-    ensures { (result.src ≡ r.entry.src) × (result.at ≡ at) }
-{
-    Reader { src: r.src, at }
-}
+    // At another position of the same profile.
+    pub(crate) fn moved(self, at: usize) -> Reader<'a>
+        ensures { (result.src ≡ self.entry.src) × (result.at ≡ at) }
+    {
+        Reader { at, ..self }
+    }
 
-// Takes a field where the reader stands.
-pub(crate) fn next<'a>(r: Reader<'a>, field: Field, p: Profile) -> Result<Taken, Refusal>
-    ensures { step_of r.entry.at p result ≡ taken (place_of field) p r.entry.src.now r.entry.at }
-{
-    take(r.src, r.at, field, p)
-}
-
-// Takes a field at a position, by a reader of its own: whoever calls it holds no reader.
-pub(crate) fn field_at(s: &[u8], at: usize, field: Field, p: Profile) -> Result<Taken, Refusal>
-    ensures { step_of at p result ≡ taken (place_of field) p s.now at }
-{
-    next(moved(new(s), at), field, p)
+    // Takes a field where the reader stands.
+    pub(crate) fn next(self, field: Field, p: Profile) -> Result<Taken, Refusal>
+        ensures { step_of self.entry.at p result ≡ taken (place_of field) p self.entry.src.now self.entry.at }
+    {
+        take(self.src, self.at, field, p)
+    }
 }
