@@ -2,8 +2,9 @@
 use mathlib.Core.Path.{◌≡◌, ap, ◌∙◌}
 use mathlib.Core.Bool.{Bool, true, false, ◌&&◌}
 use mathlib.Core.List.{List}
-use Prim.Native.Nat.{ℕ, ◌<◌, ◌≤◌}
-use borrow.Author.Tests.{eq-eqb, lt-ltb}
+use Prim.Native.Nat.{ℕ, ◌-◌, ◌%◌, ◌<◌, ◌≤◌}
+use native.Mathlib.Omega.{arith}
+use borrow.Author.Tests.{eq-eqb, ne_eqb, lt-ltb}
 use Rattle.rules.specs.Profile.{alike, are_twins, earliest, repeats, first_repeat}
 use Rattle.rules.specs.Slots.{symbol_of}
 use Rattle.laws.specs.First.{first-is}
@@ -15,6 +16,15 @@ module _ (masks seeds : List ℕ) where
     pub here : symbol_of u ≡ symbol_of t
     pub within : u ≤ t
     pub none : (i : ℕ) → i < u → are_twins masks seeds i t ≡ false
+
+  -- slots of earlier symbols are no twins of it
+  pub look_start : (t : ℕ) → Looking t (t - t % 7)
+  look_start t =
+      record {
+        here = omega arith;
+        within = omega arith;
+        none = λ i lt. ap (λ (b : Bool). b && alike masks seeds i t) (ne_eqb (symbol_of i) (symbol_of t) (λ e. omega arith));
+      }
 
   module _ {t u : ℕ} (h : Looking t u) where
     as-alike : are_twins masks seeds u t ≡ alike masks seeds u t
