@@ -20,7 +20,7 @@ pub fn is_block(number: u32) -> bool
     matches!(number, 0 | 9 | 10)
 }
 
-// Whether a reason is one that there is.
+// Whether a reason is one that there is. It stays a number: a report that is read may have any, which 23 refuses.
 fn is_reason(x: u8) -> bool
     ensures { result ≡ is_reason x }
 {
@@ -73,7 +73,7 @@ impl Block {
         }
     }
 
-    // Whether total i counts the block.
+    // Whether total i counts the block, by the kind of total: their order is the documents' list, in which a kind is its place.
     fn rises(self, i: usize) -> bool
         requires { i < 128 }
         ensures { result ≡ counts i self.receipt }

@@ -1,4 +1,5 @@
-// The calls of the C interface, thin: include/flo.h says each call's rule in words. What C links are flo_c's exports of them.
+// The calls of the C interface, thin: include/flo.h says each call's rule in words. What C links are flo_c's exports of them. The lists of parameters are C's.
+// Each call matches on its profile's reading: `and_then` was tried, and left open what its closure does to the lists that were lent.
 #![tactic(auto)]
 
 ghost use Rattle.std.specs.Prelude.{◌≡◌};
@@ -191,6 +192,7 @@ pub fn flo_write_profile(
 pub fn flo_parity(k: u8, block: &mut [u8]) -> u32
     ensures { FloParity k block.old block.new result }
 {
+    // In numbers of its own: 43 has no place here.
     match outer::fill_parity(k, block) {
         Ok(()) => 0,
         Err(e) => e.number(),

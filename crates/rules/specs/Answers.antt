@@ -110,10 +110,13 @@ abbrev pub outcome_number : Result ⊤ outer.OuterError → ℕ
 outcome_number (Ok x) = 0
 outcome_number (Err e) = outer_number e
 
+abbrev pub coding_error_number : coding.CodingError → ℕ
+coding_error_number coding.TheVariants.WrongMode = 42
+coding_error_number coding.TheVariants.WrongLength = 6
+
 abbrev pub coding_number : Result ⊤ coding.CodingError → ℕ
 coding_number (Ok x) = 0
-coding_number (Err coding.TheVariants.WrongMode) = 42
-coding_number (Err coding.TheVariants.WrongLength) = 6
+coding_number (Err e) = coding_error_number e
 
 abbrev pub reason_number : reason.Reason → ℕ
 reason_number reason.TheVariants.Marked = 11

@@ -23,7 +23,7 @@ pub struct Point {
     pub second: f32,
 }
 
-// A cell is silent, or it carries one point.
+// A cell is silent, or it carries one point. Document 01 asks for this enum by name, so it is no Option.
 #[derive(Clone, Copy)]
 pub enum Cell {
     Silent,

@@ -1,9 +1,9 @@
 // A refusal's number and place, and what the documents say of it.
 ghost use Rattle.std.specs.Prelude.{◌≡◌};
-ghost use Rattle.rules.specs.Answers.{answer_of, refusal_number, refusal_place, refusal_answer, outer_number, reason_number};
+ghost use Rattle.rules.specs.Answers.{answer_of, refusal_number, refusal_place, refusal_answer, outer_number, coding_error_number, reason_number};
 ghost use Rattle.rules.specs.Block.{silence};
 
-use super::{Misfit, OuterError, Reason, Receipt, Refusal};
+use super::{CodingError, Misfit, OuterError, Reason, Receipt, Refusal};
 use std::error::Error;
 use std::fmt;
 
@@ -121,6 +121,17 @@ impl OuterError {
             OuterError::BadLength => 6,
             OuterError::TooManyLost => 9,
             OuterError::NoCodeword => 10,
+        }
+    }
+}
+
+impl CodingError {
+    pub fn number(self) -> u32
+        ensures { result ≡ coding_error_number self }
+    {
+        match self {
+            CodingError::WrongMode => 42,
+            CodingError::WrongLength => 6,
         }
     }
 }
