@@ -69,7 +69,8 @@ fn fitting(mode: u8, symbol: usize, bits: usize, firsts: usize, seconds: usize) 
     firsts == 4096 && seconds == 4096 && in_grid(mode, symbol) && bits == modes::block_bits(mode)
 }
 
-// One symbol's 4096 cells, in rising order, in a mode that has W bits a part.
+// One symbol's 4096 cells, in rising order, in a mode that has W bits a part. The loop counts cells: c says what a cell carries, and is its place in two lists;
+// over a zip that writes, nothing is known of what was written.
 fn write_cells<const W: usize>(
     mode: u8,
     level: f32,
@@ -90,7 +91,7 @@ fn write_cells<const W: usize>(
     }
 }
 
-// One symbol's cells, where it can be written; else nothing is.
+// One symbol's cells, where it can be written; else nothing is. First and second parts are two lists, and no list of points: C lends them as two.
 pub fn write_symbol(
     mode: u8,
     level: f32,
