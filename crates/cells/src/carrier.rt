@@ -1,4 +1,4 @@
-// Which points the cells of a mode carry.
+// Which points the cells of a symbol carry.
 ghost use Rattle.std.specs.Prelude.{◌≡◌, ◌<◌, ◌≤◌};
 ghost use Rattle.rules.specs.Modes as figures;
 ghost use Rattle.rules.specs.Cells as rule;
@@ -7,12 +7,14 @@ use super::spot::Spot;
 use order::{PointAt, Table};
 use rules::PointOf;
 
-// How many slots the block has, and the order of their points.
+// A symbol of a mode, how many slots the block has, and the order of their points.
 #[derive(Drop)]
 pub(crate) struct Carrier {
     mode: u8,
+    symbol: usize,
     slots: usize,
     points: Table<PointAt>,
+    ghost inside: { symbol < 4096 },
     ghost slots_are: { slots ≡ figures.slots mode },
 }
 
@@ -25,26 +27,27 @@ fn slot_of(symbol: usize, interlace: usize) -> usize
 }
 
 impl Carrier {
-    pub(crate) fn of(mode: u8) -> Carrier
-        ensures { result.mode ≡ mode }
+    pub(crate) fn of(mode: u8, symbol: usize) -> Carrier
+        requires { symbol < 4096 }
+        ensures { (result.mode ≡ mode) × (result.symbol ≡ symbol) }
     {
         Carrier {
             mode,
+            symbol,
             slots: modes::slot_count(mode),
             points: order::points(),
         }
     }
 
     // What an interlace carries at a place.
-    fn at(&self, symbol: usize, spot: Spot) -> Option<PointOf>
-        requires { symbol < 4096 }
-        ensures { result ≡ rule.carried_at self.now.mode symbol (rule.place spot.interlace spot.place) }
+    fn at(&self, spot: Spot) -> Option<PointOf>
+        ensures { result ≡ rule.carried_at self.now.mode self.now.symbol (rule.place spot.interlace spot.place) }
     {
-        let slot = slot_of(symbol, spot.interlace);
+        let slot = slot_of(self.symbol, spot.interlace);
         if slot == 0 {
             return None;
         }
-        let t = 7 * symbol + slot - 1;
+        let t = 7 * self.symbol + slot - 1;
         if t >= self.slots {
             return None;
         }
@@ -54,11 +57,10 @@ impl Carrier {
         })
     }
 
-    // What cell c of a symbol carries.
-    pub(crate) fn cell(&self, symbol: usize, c: usize) -> Option<PointOf>
-        requires { symbol < 4096 }
-        ensures { result ≡ rule.carried self.now.mode symbol c }
+    // What cell c of the symbol carries.
+    pub(crate) fn cell(&self, c: usize) -> Option<PointOf>
+        ensures { result ≡ rule.carried self.now.mode self.now.symbol c }
     {
-        self.at(symbol, Spot::of(c)?)
+        self.at(Spot::of(c)?)
     }
 }

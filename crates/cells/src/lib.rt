@@ -43,7 +43,7 @@ pub fn carried(mode: u8, symbol: usize, c: usize) -> Option<PointOf>
     ensures { result ≡ rule.carried mode symbol c }
 {
     if in_grid(mode, symbol) {
-        Carrier::of(mode).cell(symbol, c)
+        Carrier::of(mode, symbol).cell(c)
     } else {
         None
     }
@@ -83,9 +83,9 @@ fn write_cells<const W: usize>(
         × (symbolRule.fitting mode symbol (length bits.now) (length firsts.old) (length seconds.old) ≡ true) }
     ensures { Written mode level bits.now symbol firsts.new seconds.new }
 {
-    let pen = Pen::<W>::of(mode, level);
+    let pen = Pen::<W>::of(mode, level, symbol);
     for c in 0..4096 {
-        let parts = parts_of(pen.cell(bits, symbol, c));
+        let parts = parts_of(pen.cell(bits, c));
         firsts[c] = parts.first;
         seconds[c] = parts.second;
     }
