@@ -43,8 +43,8 @@ fn spread_byte<const W: usize>(byte: u8, bits: &mut [u8])
 }
 
 // The bits of 500 bytes.
-pub(crate) fn spread<const W: usize>(bytes: &[u8], bits: &mut [u8])
-    requires { (1 ≤ W) × (W ≤ 2) × (length bytes.now ≡ 500) × (length bits.old ≡ 2 * W * 500) }
+pub(crate) fn spread<const W: usize>(bytes: &[u8; 500], bits: &mut [u8])
+    requires { (1 ≤ W) × (W ≤ 2) × (length bits.old ≡ 2 * W * 500) }
     ensures { Holds 0 (2 * W * 500) (spread_bit W (row bytes.now)) bits.new }
 {
     for (i, byte) in bytes.iter().enumerate() {
