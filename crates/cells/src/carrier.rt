@@ -18,14 +18,6 @@ pub(crate) struct Carrier {
     ghost slots_are: { slots ≡ figures.slots mode },
 }
 
-// The slot number of an interlace in a symbol, 0 for none.
-fn slot_of(symbol: usize, interlace: usize) -> usize
-    requires { (symbol < 4096) × (interlace < 8) }
-    ensures { (result ≡ rule.slot_of symbol interlace) × (result ≤ 7) }
-{
-    interlace
-}
-
 impl Carrier {
     pub(crate) fn of(mode: u8, symbol: usize) -> Carrier
         requires { symbol < 4096 }
@@ -39,11 +31,19 @@ impl Carrier {
         }
     }
 
+    // The slot number of an interlace, 0 for none.
+    fn slot_of(&self, interlace: usize) -> usize
+        requires { interlace < 8 }
+        ensures { (result ≡ rule.slot_of self.now.symbol interlace) × (result ≤ 7) }
+    {
+        interlace
+    }
+
     // What an interlace carries at a place.
     fn at(&self, spot: Spot) -> Option<PointOf>
         ensures { result ≡ rule.carried_at self.now.mode self.now.symbol (rule.place spot.interlace spot.place) }
     {
-        let slot = slot_of(self.symbol, spot.interlace);
+        let slot = self.slot_of(spot.interlace);
         if slot == 0 {
             return None;
         }
