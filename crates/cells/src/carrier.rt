@@ -53,7 +53,7 @@ impl Carrier {
         }
         Some(PointOf {
             slot: t,
-            point: self.points.at(spot.place).unwrap(),
+            point: usize::from(self.points.numbers()[spot.place]),
         })
     }
 
