@@ -43,7 +43,7 @@ pub fn carried(mode: u8, symbol: usize, c: usize) -> Option<PointOf>
     ensures { result ≡ rule.carried mode symbol c }
 {
     if in_grid(mode, symbol) {
-        Carrier::of(mode).cell(symbol, c)
+        Carrier::of(mode, symbol).cell(c)
     } else {
         None
     }
@@ -69,7 +69,8 @@ fn fitting(mode: u8, symbol: usize, bits: usize, firsts: usize, seconds: usize) 
     firsts == 4096 && seconds == 4096 && in_grid(mode, symbol) && bits == modes::block_bits(mode)
 }
 
-// One symbol's 4096 cells, in rising order, in a mode that has W bits a part.
+// One symbol's 4096 cells, in rising order, in a mode that has W bits a part. The loop counts cells: c says what a cell carries, and is its place in two lists;
+// over a zip that writes, nothing is known of what was written.
 fn write_cells<const W: usize>(
     mode: u8,
     level: f32,
@@ -82,15 +83,15 @@ fn write_cells<const W: usize>(
         × (symbolRule.fitting mode symbol (length bits.now) (length firsts.old) (length seconds.old) ≡ true) }
     ensures { Written mode level bits.now symbol firsts.new seconds.new }
 {
-    let pen = Pen::<W>::of(mode, level);
+    let pen = Pen::<W>::of(mode, level, symbol);
     for c in 0..4096 {
-        let parts = parts_of(pen.cell(bits, symbol, c));
+        let parts = parts_of(pen.cell(bits, c));
         firsts[c] = parts.first;
         seconds[c] = parts.second;
     }
 }
 
-// One symbol's cells, where it can be written; else nothing is.
+// One symbol's cells, where it can be written; else nothing is. First and second parts are two lists, and no list of points: C lends them as two.
 pub fn write_symbol(
     mode: u8,
     level: f32,

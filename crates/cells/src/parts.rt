@@ -1,4 +1,4 @@
-// The parts that bits make at a level.
+// The parts that bits make at a level. That W is 1 or 2 stands in each contract, since a const parameter can carry no fact.
 ghost use Rattle.std.specs.Prelude.{◌≡◌, ◌+◌, ◌*◌, ◌<◌, ◌≤◌, eqb, length};
 ghost use Rattle.rules.specs.Bits.{pick, row};
 ghost use Rattle.rules.specs.Points.{part, point_of};

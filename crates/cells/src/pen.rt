@@ -1,4 +1,4 @@
-// What a block's cells are written by, where a part has W bits. The number is known when this is compiled: no cell asks for it.
+// What a symbol's cells are written by, where a part has W bits. The number is known when this is compiled: no cell asks for it.
 ghost use Rattle.std.specs.Prelude.{◌≡◌, ◌+◌, ◌*◌, ◌<◌, ◌≤◌, length};
 ghost use Rattle.rules.specs.Modes as figures;
 ghost use Rattle.cells.specs.Symbol.{symbol_cell};
@@ -18,12 +18,12 @@ pub(crate) struct Pen<const W: usize> {
 }
 
 impl<const W: usize> Pen<W> {
-    pub(crate) fn of(mode: u8, level: f32) -> Pen<W>
-        requires { W ≡ figures.part_bits mode }
-        ensures { (result.carrier.mode ≡ mode) × (result.parts.level ≡ level) }
+    pub(crate) fn of(mode: u8, level: f32, symbol: usize) -> Pen<W>
+        requires { (W ≡ figures.part_bits mode) × (symbol < 4096) }
+        ensures { (result.carrier.mode ≡ mode) × (result.parts.level ≡ level) × (result.carrier.symbol ≡ symbol) }
     {
         Pen {
-            carrier: Carrier::of(mode),
+            carrier: Carrier::of(mode, symbol),
             slot_bits: modes::slot_bits(mode),
             parts: Parts::of(level),
         }
@@ -39,13 +39,13 @@ impl<const W: usize> Pen<W> {
         self.slot_bits * p.slot + 2 * W * p.point
     }
 
-    // The cell of a symbol whose block has these scrambled bits.
-    pub(crate) fn cell(&self, bits: &[u8], symbol: usize, c: usize) -> Cell
+    // A cell of the symbol, where the block has these scrambled bits.
+    pub(crate) fn cell(&self, bits: &[u8], c: usize) -> Cell
         requires { let m = self.now.carrier.mode in
-            (symbol < 4096) × (length bits.now ≡ figures.slot_bits m * figures.slots m) }
-        ensures { result ≡ symbol_cell self.now.carrier.mode self.now.parts.level bits.now symbol c }
+            length bits.now ≡ figures.slot_bits m * figures.slots m }
+        ensures { result ≡ symbol_cell self.now.carrier.mode self.now.parts.level bits.now self.now.carrier.symbol c }
     {
-        match self.carrier.cell(symbol, c) {
+        match self.carrier.cell(c) {
             None => Cell::Silent,
             Some(p) => Cell::Carries(self.parts.point::<W>(bits, self.first_bit(p))),
         }

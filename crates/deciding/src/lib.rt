@@ -11,7 +11,8 @@ mod lines;
 use lines::Lines;
 use rules::{Misfit, Point};
 
-// The numbers that a point's two parts decide to.
+// The numbers that a point's two parts decide to. Numbers, and no enum: the rule of decisions speaks of numbers 0 to 4, and two of them make the byte of a
+// cell in the state that C keeps.
 #[derive(Clone, Copy)]
 pub struct Decision {
     pub first: u8,
@@ -41,7 +42,8 @@ pub fn decide_point(mode: u8, level: f32, floor: f32, p: Point) -> Decision
     }
 }
 
-// What each cell decides to, in a byte each. Where the lists are not of one length nothing is written.
+// What each cell decides to, in a byte each. Where the lists are not of one length nothing is written. First and second parts are two lists, and no list of
+// points: C lends them as two.
 pub fn decide_cells(
     mode: u8,
     level: f32,

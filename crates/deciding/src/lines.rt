@@ -1,4 +1,4 @@
-// What a part and a cell decide to where a part has W bits, one or two.
+// What a part and a cell decide to where a part has W bits, one or two. That stands in each contract, since a const parameter can carry no fact.
 ghost use Rattle.std.specs.Prelude.{◌≡◌, ◌*◌, ◌+◌, ◌^◌, ◌<◌, ◌≤◌, length, get_or};
 ghost use Rattle.rules.specs.Points as points;
 ghost use Rattle.rules.specs.Points.{zero_part};

@@ -49,6 +49,8 @@ static MASKS: [u32; 16] = [
     0xff000000, 0xff0000ff, 0xff00ff00, 0xff00ffff, 0xffff0000, 0xffff00ff, 0xffffff00, 0xffffffff,
 ];
 
+// That n is below 16 stands in three contracts: a byte is parted in two halves where they are looked up, and a type for a half would be made and opened in the
+// same expression.
 pub(crate) fn low_multiples(n: u8) -> u64
     requires { n < 16 }
     ensures { result ≡ multiples n }

@@ -1,5 +1,5 @@
 // The bits of the decisions in bytes, where a part has W bits, one or two. The number is known when this is compiled, so that many bytes are divided at
-// a time.
+// a time. That W is 1 or 2 stands in each contract, since a const parameter can carry no fact.
 ghost use Rattle.std.specs.Prelude.{◌≡◌, ◌*◌, ◌<◌, ◌≤◌, length};
 ghost use Rattle.rules.specs.Bits.{row};
 ghost use Rattle.rules.specs.Points.{bit_in};
@@ -7,7 +7,7 @@ ghost use Rattle.rules.specs.Pieces.{decision_in};
 ghost use Rattle.laws.specs.Holds.{Holds};
 ghost use Rattle.hearing.specs.Reading.{spread_bit};
 
-// Bit k of a decision, 2 where it is doubtful.
+// Bit k of a decision, 2 where it is doubtful. Decisions are numbers here as in deciding: they come out of the bytes of the state that C keeps.
 fn bit_of<const W: usize>(d: u8, k: usize) -> u8
     requires { (1 ≤ W) × (W ≤ 2) × (k < W) }
     ensures { result ≡ bit_in W d k }
@@ -43,8 +43,8 @@ fn spread_byte<const W: usize>(byte: u8, bits: &mut [u8])
 }
 
 // The bits of 500 bytes.
-pub(crate) fn spread<const W: usize>(bytes: &[u8], bits: &mut [u8])
-    requires { (1 ≤ W) × (W ≤ 2) × (length bytes.now ≡ 500) × (length bits.old ≡ 2 * W * 500) }
+pub(crate) fn spread<const W: usize>(bytes: &[u8; 500], bits: &mut [u8])
+    requires { (1 ≤ W) × (W ≤ 2) × (length bits.old ≡ 2 * W * 500) }
     ensures { Holds 0 (2 * W * 500) (spread_bit W (row bytes.now)) bits.new }
 {
     for (i, byte) in bytes.iter().enumerate() {

@@ -7,6 +7,8 @@ ghost use Rattle.outer.specs.Solve as solve;
 ghost use Rattle.outer.specs.Solve.{lost_at};
 ghost use Rattle.outer.specs.Steps.{Put};
 
+// Whether packet p is lost. That p is below 16 stands here and in node and other, of matrix.rt: it is the number that a loop over the 16 packets gives, and a
+// type for it would be made and opened in the same turn.
 pub(crate) fn lost_at(lost: u16, p: usize) -> bool
     requires { p < 16 }
     ensures { result ≡ lost_at lost p }

@@ -14,7 +14,7 @@ use division::Parity;
 use rules::OuterError;
 use solution::System;
 
-// Fills the last 16 - k packets with the parity of the k before them.
+// Fills the last 16 - k packets with the parity of the k before them. The loop counts columns: j is a column's number, and its bytes stand 122 apart.
 pub fn fill_parity(k: u8, block: &mut [u8]) -> Result<(), OuterError>
     ensures { ParityMade k block.old block.new (outcome_number result) }
 {

@@ -49,7 +49,8 @@ impl Missing {
         n != self.p && lost_at(self.lost, n)
     }
 
-    // The product of x plus the node, over the other lost packets: its coefficients below x^8.
+    // The product of x plus the node, over the other lost packets: its coefficients below x^8. The loop counts packets: n is a packet's number, and no list is
+    // walked.
     fn basis(self) -> [u8; 8]
         ensures { Holds 0 8 (solve.basis (solve.other self.lost self.p) 16) result }
     {
@@ -62,7 +63,7 @@ impl Missing {
         b
     }
 
-    // And its value at p's node.
+    // And its value at p's node. The loop counts packets here too.
     fn product(self) -> Element
         ensures { result.0 ≡ solve.product (solve.other self.lost self.p) 16 (solve.node self.p) }
     {

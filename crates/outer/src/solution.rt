@@ -113,7 +113,7 @@ impl System {
         c
     }
 
-    // All columns, where each has a codeword.
+    // All columns, where each has a codeword. The loop counts columns: j is a column's number, and its bytes stand 122 apart in the block.
     pub(crate) fn solved(&self, block: &[u8; 1952]) -> Result<[u8; 1952], OuterError>
         ensures { Works self.now.parity.r self.now.lost block.now result }
     {

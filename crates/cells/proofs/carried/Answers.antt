@@ -7,8 +7,8 @@ use Rattle.cells.proofs.Within.{slots-lt}
 use Rattle.cells.proofs.Inverse.{carried-past}
 use Rattle.cells.proofs.carried.Goals as goal
 
-pub cell-requires : goal.cell-requires
-cell-requires c =
+pub of-requires : goal.of-requires
+of-requires c =
     let a = c.args in
     let inside = ltb-true a.symbol (symbols a.mode) (sym c.in_grid.ensures ∙ c.if-in_grid.true) in
     omega (arith, slots-lt a.mode)

@@ -19,19 +19,27 @@ loop-c-init g c = (
   holds-first _ _ zero_part (record { long = (fits _ _ _ _ _ c.requires.1).seconds_long; each = λ k l. refl }),
 )
 
+pub of-pen-requires : goal.of-pen-requires
+of-pen-requires g c =
+    let a = c.args in
+    let ok = fits a.mode a.symbol (length a.bits.now) (length a.firsts.now) (length a.seconds.now) c.requires.1 in
+    (omega arith, (c.requires.0, omega (arith, ok.in_grid, slots-lt a.mode)))
+
 pub cell-requires : goal.cell-requires
 cell-requires g c =
     let a = c.args in
     let ok = fits a.mode a.symbol (length a.bits.now) (length a.firsts.now) (length a.seconds.now) c.requires.1 in
     let pen = c.of-pen.ensures.0 in
-    (omega arith, (omega (arith, ok.in_grid, slots-lt a.mode), rw pen ok.bits_long))
+    (omega arith, rw pen ok.bits_long)
 
 pub loop-c-preserved : goal.loop-c-preserved
 loop-c-preserved g c =
     let a = c.args in
     let pen = c.of-pen.ensures in
     let e : c.cell.result ≡ symbol_cell a.mode a.level a.bits.now a.symbol c.loop-c.c =
-    c.cell.ensures ∙ ap₂ (λ (m : ℕ) (x : Float). symbol_cell m x a.bits.now a.symbol c.loop-c.c) pen.0 pen.1 in
+    c.cell.ensures
+    ∙ ap₂ (λ (m : ℕ) (x : Float). symbol_cell m x a.bits.now c.of-pen.result.carrier.symbol c.loop-c.c) pen.0 pen.1
+    ∙ ap (λ (s : ℕ). symbol_cell a.mode a.level a.bits.now s c.loop-c.c) pen.2 in
     let inv = c.loop-c.invariant in (
       omega arith,
       holds-next _ _ zero_part _ _ (omega arith) (c.parts_of-parts.ensures.0 ∙ ap first_part e) inv.1,

@@ -7,10 +7,10 @@ pub returns-in_err-of : goal.returns-in_err-of
 unfolding carried
 returns-in_err-of c =
     let a = c.args in
-    c.from_residual.ensures ∙ ap (carried_at a.self.now.mode a.symbol) c.in_err-of.ensures
+    c.from_residual.ensures ∙ ap (carried_at a.self.now.mode a.self.now.symbol) c.in_err-of.ensures
 
 pub returns : goal.returns
 unfolding carried
 returns c =
     let a = c.args in
-    c.at.ensures ∙ ap (carried_at a.self.now.mode a.symbol) c.in_ok-of.ensures
+    c.at.ensures ∙ ap (carried_at a.self.now.mode a.self.now.symbol) c.in_ok-of.ensures

@@ -17,7 +17,7 @@ pub first_bit-requires : goal.first_bit-requires
 first_bit-requires g c =
     let a = c.args in
     let p = c.in-Some.p in
-    let w = cell-carried a.self.now.carrier.mode a.symbol a.c p.slot p.point (sym c.cell.ensures ∙ c.in-Some.is) in
+    let w = cell-carried a.self.now.carrier.mode a.self.now.carrier.symbol a.c p.slot p.point (sym c.cell.ensures ∙ c.in-Some.is) in
     (omega arith, (w.0, w.1))
 
 pub point-requires : goal.point-requires

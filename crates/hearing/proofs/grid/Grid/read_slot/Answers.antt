@@ -14,7 +14,7 @@ two c = omega (arith, part-bounds c.args.self.now.mode)
 
 pub spread-requires : goal.spread-requires
 spread-requires c =
-    (omega arith, omega arith, c.slot_bytes-bytes.ensures.long, omega (arith, (figures c.args.self.now.mode).slot))
+    (omega arith, omega arith, omega (arith, (figures c.args.self.now.mode).slot))
 
 pub returns-then-part_bits-eq1 : goal.returns-then-part_bits-eq1
 returns-then-part_bits-eq1 c =
@@ -26,7 +26,6 @@ pub spread-requires-else-part_bits-eq1 : goal.spread-requires-else-part_bits-eq1
 spread-requires-else-part_bits-eq1 c = (
   omega arith,
   omega arith,
-  c.slot_bytes-bytes.ensures.long,
   omega (arith, (figures c.args.self.now.mode).slot, two (goal.at.spread-requires-else-part_bits-eq1 c).Else-part_bits-eq1),
 )
 
