@@ -110,7 +110,7 @@ impl Field {
         }
     }
 
-    // The value, stored from a position on.
+    // The value, stored from a position on: a slice and a position, as the reader has them.
     #[tactic(auto, unfolding(crate::specs::Fields::field))]
     pub(crate) fn put_value(self, p: Profile, s: &mut [u8], at: usize)
         requires { at + (rule_of self).due p ≤ length s.old }

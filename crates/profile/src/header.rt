@@ -14,7 +14,8 @@ fn pair(b0: u8, b1: u8) -> usize
     u16::from_be_bytes([b0, b1]) as usize
 }
 
-// Whether a whole field with this tag and this length stands at a position; else the refusal: nothing left, header cut, tag, length, value cut.
+// Whether a whole field with this tag and this length stands at a position; else the refusal: nothing left, header cut, tag, length, value cut. On the
+// slice and the number, as document 01 names the form.
 pub(crate) fn judge(s: &[u8], at: usize, tag: u8, due: usize) -> Result<(), Refusal>
     ensures { answer_of result ≡ only (heading tag due (drop at s.now)) }
 {
@@ -38,7 +39,8 @@ pub(crate) fn judge(s: &[u8], at: usize, tag: u8, due: usize) -> Result<(), Refu
     Ok(())
 }
 
-// Whether nothing stands after the last field; else the refusal of what does: fewer than three bytes, or a header.
+// Whether nothing stands after the last field; else the refusal of what does: fewer than three bytes, or a header. On the slice and
+// the number too.
 pub(crate) fn ending(s: &[u8], at: usize) -> Result<(), Refusal>
     ensures { answer_of result ≡ only (endingOf (drop at s.now)) }
 {
@@ -49,7 +51,7 @@ pub(crate) fn ending(s: &[u8], at: usize) -> Result<(), Refusal>
     }
 }
 
-// A field's tag and length, stored from a position on.
+// A field's tag and length, stored from a position on: the writer has the reader's form, a slice and a position.
 pub(crate) fn put(s: &mut [u8], at: usize, tag: u8, due: usize)
     requires { (at + 3 ≤ length s.old) × (due < 65536) }
     ensures { s.new ≡ sets s.old at (tag ∷ due / 256 ∷ due % 256 ∷ []) }

@@ -8,7 +8,7 @@ ghost use Rattle.rules.specs.Modes.{slots as slots_of};
 
 use std::array;
 
-// The number whose four bytes begin at a place.
+// The number whose four bytes begin at a place: the numbers of a value are read from one slice, each at its place.
 fn word(s: &[u8], at: usize) -> u32
     requires { at + 4 ≤ length s.now }
     ensures { result ≡ number (take 4 (drop at s.now)) }
@@ -56,7 +56,7 @@ pub(crate) fn part_of(s: &[u8]) -> f32
     parts::part_of_bytes(s[0], s[1], s[2], s[3])
 }
 
-// A number of four bytes, stored from a position on.
+// A number of four bytes, stored from a position on: a slice and a position, as the reader has them.
 pub(crate) fn put_word(s: &mut [u8], at: usize, x: u32)
     requires { at + 4 ≤ length s.old }
     ensures { s.new ≡ sets s.old at (word_bytes x) }
@@ -64,7 +64,8 @@ pub(crate) fn put_word(s: &mut [u8], at: usize, x: u32)
     s[at..at + 4].copy_from_slice(&x.to_be_bytes());
 }
 
-// Numbers of four bytes, stored one after another.
+// Numbers of four bytes, stored one after another from a position on. The position is carried, since nothing is known of what is written through
+// chunks_exact_mut.
 pub(crate) fn put_words(s: &mut [u8], mut at: usize, l: &[u32])
     requires { at + 4 * length l.now ≤ length s.old }
     ensures { s.new ≡ sets s.old at (all_bytes l.now) }
