@@ -1,6 +1,5 @@
 // The header of a field, judged at a position before its value is read, and stored; and what stands after the last field.
 ghost use Rattle.std.specs.Prelude.{◌≡◌, [], ◌∷◌, ◌+◌, ◌*◌, ◌/◌, ◌%◌, ◌<◌, ◌≤◌, drop, length};
-ghost use Rattle.std.proofs.lemmas.List.Edits.{sets};
 ghost use Rattle.rules.specs.Answers.{answer_of};
 ghost use Rattle.rules.specs.Profile.{only};
 ghost use Rattle.profile.specs.Fields.{heading, ending as endingOf};
@@ -51,11 +50,11 @@ pub(crate) fn ending(s: &[u8], at: usize) -> Result<(), Refusal>
     }
 }
 
-// A field's tag and length, stored from a position on: the writer has the reader's form, a slice and a position.
-pub(crate) fn put(s: &mut [u8], at: usize, tag: u8, due: usize)
-    requires { (at + 3 ≤ length s.old) × (due < 65536) }
-    ensures { s.new ≡ sets s.old at (tag ∷ due / 256 ∷ due % 256 ∷ []) }
+// A field's tag and length, stored in the three bytes of its header.
+pub(crate) fn put(s: &mut [u8], tag: u8, due: usize)
+    requires { (length s.old ≡ 3) × (due < 65536) }
+    ensures { s.new ≡ tag ∷ due / 256 ∷ due % 256 ∷ [] }
 {
-    s[at] = tag;
-    s[at + 1..at + 3].copy_from_slice(&(due as u16).to_be_bytes());
+    let length = (due as u16).to_be_bytes();
+    s.copy_from_slice(&[tag, length[0], length[1]]);
 }
