@@ -69,7 +69,7 @@ pub fn seeds_passing(mode: u8, seeds: [u32; 48]) -> usize
 fn is_floor(floor: f32) -> bool
     ensures { result ≡ is_floor floor }
 {
-    // Two tests, since no range of std leaves out its start.
+    // Two tests, since a range holds its start, and 0.0 is out here.
     parts::bits_of_part(floor) == 0 || (0.0 < floor && floor <= MOST)
 }
 
