@@ -58,6 +58,7 @@ pub fn scramble(p: Profile, bits: &mut [u8])
 {
     let n = slots_in(p.mode, bits.len());
     let b = modes::slot_bits(p.mode);
+    // t is a slot's number: its place in the seeds, in the masks and in the bits.
     for t in 0..n {
         let at = b * t;
         slots::scramble(p.seeds[t], p.masks[1 + t % 7], &mut bits[at..at + b]);

@@ -10,6 +10,7 @@ ghost use Rattle.rules.specs.Profile.{word_bytes};
 pub fn part_of_bits(bits: u32) -> f32
     ensures { result ≡ Ieee.of_bits binary32 bits }
 {
+    // std's `from_bits` asks that the pattern is no NaN's; here every pattern is answered.
     if bits % 0x8000_0000 > 0x7F80_0000 {
         return f32::NAN;
     }
@@ -27,6 +28,7 @@ pub fn part_of_bytes(b0: u8, b1: u8, b2: u8, b3: u8) -> f32
 pub fn bits_of_part(part: f32) -> u32
     ensures { result ≡ Ieee.to_bits binary32 part }
 {
+    // std's `to_bits` asks that there is no NaN.
     if part.is_nan() {
         return 0x7FC0_0000;
     }

@@ -16,6 +16,9 @@ use Rattle.profile.proofs.Words.{bytes-length}
 use Rattle.profile.proofs.Entries.{slots_most}
 use Rattle.laws.specs.Run.{Run, run_start, run_more, sets_front}
 use Rattle.profile.proofs.Walk.{fields_at, tag_at}
+use Rattle.profile.proofs.Values.{put-sets}
+use Rattle.laws.specs.Parts.{put_part}
+use Rattle.std.proofs.Math.Seq.{length-sets}
 
 -- ---- lengths
 
@@ -66,11 +69,17 @@ module _ {s₀ : List ℕ} {p : Profile} {s : List ℕ} {at i : ℕ} (h : Storin
           d,
         )
 
-    pub store-more : {s₁ s₂ : List ℕ} → s₁ ≡ sets s at head → s₂ ≡ sets s₁ (at + 3) ((field i).bytes p) → Storing s₀ p s₂ (at + (3 + due)) (i + 1)
-    store-more {s₁} {s₂} e₁ e₂ =
+    pub store-more : {y₁ y₂ : List ℕ} → length (written p) ≤ length s₀ → y₁ ≡ head → y₂ ≡ (field i).bytes p
+        → Storing s₀ p (put_part (at + 3) (at + 3 + due) (put_part at (at + 3) s y₁) y₂) (at + 3 + due) (i + 1)
+    store-more {y₁} {y₂} r e₁ e₂ =
+        let first : put_part at (at + 3) s y₁ ≡ sets s at head = put-sets at (at + 3) s head e₁ refl (omega (arith, store-room r)) in
         record {
           within = omega arith;
-          run = run_more ((field i).bytes p) (run_more head h.run next e₁ refl) refl e₂ (omega (arith, bytes-due i p z lt, d));
+          run =
+              run_more ((field i).bytes p) (run_more head h.run next first refl) refl
+              (put-sets (at + 3) (at + 3 + due) (put_part at (at + 3) s y₁) ((field i).bytes p) e₂ (omega (arith, bytes-due i p z lt, d))
+              (omega (arith, store-room r, ap length first, length-sets s at head)))
+              (omega (arith, bytes-due i p z lt, d));
         }
 
 -- ---- the answer

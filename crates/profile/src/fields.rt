@@ -1,7 +1,6 @@
 // The table of fields: what is due, found at fault, read and stored for each. A field more is a variant more, in the order of the tags, and an arm more in
 // each of the functions.
 ghost use Rattle.std.specs.Prelude.{◌≡◌, ◌+◌, ◌^◌, ◌<◌, ◌≤◌, length};
-ghost use Rattle.std.proofs.lemmas.List.Edits.{sets};
 ghost use Rattle.rules.specs.Answers.{answer_of};
 ghost use Rattle.rules.specs.Profile.{fault_of};
 ghost use Rattle.profile.specs.Fields.{place_of, rule_of};
@@ -110,22 +109,22 @@ impl Field {
         }
     }
 
-    // The value, stored from a position on.
+    // The value, stored in its bytes.
     #[tactic(auto, unfolding(crate::specs::Fields::field))]
-    pub(crate) fn put_value(self, p: Profile, s: &mut [u8], at: usize)
-        requires { at + (rule_of self).due p ≤ length s.old }
-        ensures { s.new ≡ sets s.old at ((rule_of self).bytes p) }
+    pub(crate) fn put_value(self, p: Profile, s: &mut [u8])
+        requires { length s.old ≡ (rule_of self).due p }
+        ensures { s.new ≡ (rule_of self).bytes p }
     {
         match self {
-            Field::Masks => numbers::put_words(s, at, &p.masks),
-            Field::Level => numbers::put_word(s, at, parts::bits_of_part(p.level)),
-            Field::Mode => s[at] = p.mode,
-            Field::K => s[at] = p.k,
+            Field::Masks => numbers::put_words(s, &p.masks),
+            Field::Level => numbers::put_word(s, parts::bits_of_part(p.level)),
+            Field::Mode => s.copy_from_slice(&[p.mode]),
+            Field::K => s.copy_from_slice(&[p.k]),
             Field::Seeds => {
                 let n = modes::slot_count(p.mode);
-                numbers::put_words(s, at, &p.seeds[..n]);
+                numbers::put_words(s, &p.seeds[..n]);
             }
-            Field::Floor => numbers::put_word(s, at, parts::bits_of_part(p.floor)),
+            Field::Floor => numbers::put_word(s, parts::bits_of_part(p.floor)),
         }
     }
 }

@@ -1,6 +1,5 @@
 // The header of a field, judged at a position before its value is read, and stored; and what stands after the last field.
 ghost use Rattle.std.specs.Prelude.{◌≡◌, [], ◌∷◌, ◌+◌, ◌*◌, ◌/◌, ◌%◌, ◌<◌, ◌≤◌, drop, length};
-ghost use Rattle.std.proofs.lemmas.List.Edits.{sets};
 ghost use Rattle.rules.specs.Answers.{answer_of};
 ghost use Rattle.rules.specs.Profile.{only};
 ghost use Rattle.profile.specs.Fields.{heading, ending as endingOf};
@@ -14,7 +13,8 @@ fn pair(b0: u8, b1: u8) -> usize
     u16::from_be_bytes([b0, b1]) as usize
 }
 
-// Whether a whole field with this tag and this length stands at a position; else the refusal: nothing left, header cut, tag, length, value cut.
+// Whether a whole field with this tag and this length stands at a position; else the refusal: nothing left, header cut, tag, length, value cut. On the
+// slice and the number, as document 01 names the form.
 pub(crate) fn judge(s: &[u8], at: usize, tag: u8, due: usize) -> Result<(), Refusal>
     ensures { answer_of result ≡ only (heading tag due (drop at s.now)) }
 {
@@ -38,7 +38,8 @@ pub(crate) fn judge(s: &[u8], at: usize, tag: u8, due: usize) -> Result<(), Refu
     Ok(())
 }
 
-// Whether nothing stands after the last field; else the refusal of what does: fewer than three bytes, or a header.
+// Whether nothing stands after the last field; else the refusal of what does: fewer than three bytes, or a header. On the slice and
+// the number too.
 pub(crate) fn ending(s: &[u8], at: usize) -> Result<(), Refusal>
     ensures { answer_of result ≡ only (endingOf (drop at s.now)) }
 {
@@ -49,11 +50,11 @@ pub(crate) fn ending(s: &[u8], at: usize) -> Result<(), Refusal>
     }
 }
 
-// A field's tag and length, stored from a position on.
-pub(crate) fn put(s: &mut [u8], at: usize, tag: u8, due: usize)
-    requires { (at + 3 ≤ length s.old) × (due < 65536) }
-    ensures { s.new ≡ sets s.old at (tag ∷ due / 256 ∷ due % 256 ∷ []) }
+// A field's tag and length, stored in the three bytes of its header.
+pub(crate) fn put(s: &mut [u8], tag: u8, due: usize)
+    requires { (length s.old ≡ 3) × (due < 65536) }
+    ensures { s.new ≡ tag ∷ due / 256 ∷ due % 256 ∷ [] }
 {
-    s[at] = tag;
-    s[at + 1..at + 3].copy_from_slice(&(due as u16).to_be_bytes());
+    let length = (due as u16).to_be_bytes();
+    s.copy_from_slice(&[tag, length[0], length[1]]);
 }

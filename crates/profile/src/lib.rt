@@ -69,9 +69,10 @@ fn put_all(s: &mut [u8], p: Profile) -> usize
     let mut at = 0;
     for field in FIELDS {
         let due = field.due(p);
-        header::put(s, at, field.tag(), due);
-        field.put_value(p, s, at + 3);
-        at += 3 + due;
+        let next = at + 3 + due;
+        header::put(&mut s[at..at + 3], field.tag(), due);
+        field.put_value(p, &mut s[at + 3..next]);
+        at = next;
     }
     at
 }

@@ -2,18 +2,17 @@
 ghost use Rattle.std.specs.Prelude.{◌≡◌, ◌++◌, ◌+◌, ◌-◌, ◌*◌, ◌≤◌, length, take, drop, replicate};
 ghost use Rattle.std.specs.Float.Ieee as Ieee;
 ghost use Rattle.std.specs.Float.{binary32};
-ghost use Rattle.std.proofs.lemmas.List.Edits.{sets};
 ghost use Rattle.rules.specs.Profile.{all_bytes, number, word_bytes, words as words_of};
 ghost use Rattle.rules.specs.Modes.{slots as slots_of};
 
 use std::array;
 
-// The number whose four bytes begin at a place.
-fn word(s: &[u8], at: usize) -> u32
-    requires { at + 4 ≤ length s.now }
-    ensures { result ≡ number (take 4 (drop at s.now)) }
+// The number of four bytes.
+fn word(s: &[u8]) -> u32
+    requires { length s.now ≡ 4 }
+    ensures { result ≡ number s.now }
 {
-    u32::from_be_bytes([s[at], s[at + 1], s[at + 2], s[at + 3]])
+    u32::from_be_bytes([s[0], s[1], s[2], s[3]])
 }
 
 // The first n numbers of four bytes each, and zeros after them.
@@ -21,7 +20,7 @@ fn words<const N: usize>(s: &[u8], n: usize) -> [u32; N]
     requires { (4 * n ≤ length s.now) × (n ≤ N) }
     ensures { result ≡ words_of n s.now ++ replicate (N - n) 0 }
 {
-    array::from_fn(|i| if i < n { word(s, 4 * i) } else { 0 })
+    array::from_fn(|i| if i < n { word(&s[4 * i..4 * i + 4]) } else { 0 })
 }
 
 // The masks in field 1's value.
@@ -53,24 +52,23 @@ pub(crate) fn part_of(s: &[u8]) -> f32
     requires { length s.now ≡ 4 }
     ensures { result ≡ Ieee.of_bits binary32 (number s.now) }
 {
-    parts::part_of_bytes(s[0], s[1], s[2], s[3])
+    parts::part_of_bits(word(s))
 }
 
-// A number of four bytes, stored from a position on.
-pub(crate) fn put_word(s: &mut [u8], at: usize, x: u32)
-    requires { at + 4 ≤ length s.old }
-    ensures { s.new ≡ sets s.old at (word_bytes x) }
+// A number, stored in its four bytes.
+pub(crate) fn put_word(s: &mut [u8], x: u32)
+    requires { length s.old ≡ 4 }
+    ensures { s.new ≡ word_bytes x }
 {
-    s[at..at + 4].copy_from_slice(&x.to_be_bytes());
+    s.copy_from_slice(&x.to_be_bytes());
 }
 
-// Numbers of four bytes, stored one after another.
-pub(crate) fn put_words(s: &mut [u8], mut at: usize, l: &[u32])
-    requires { at + 4 * length l.now ≤ length s.old }
-    ensures { s.new ≡ sets s.old at (all_bytes l.now) }
+// Numbers, each stored in its four bytes. Their places are counted, since nothing is known of what is written through chunks_exact_mut.
+pub(crate) fn put_words(s: &mut [u8], l: &[u32])
+    requires { length s.old ≡ 4 * length l.now }
+    ensures { s.new ≡ all_bytes l.now }
 {
-    for x in l {
-        put_word(s, at, *x);
-        at += 4;
+    for (i, x) in l.iter().enumerate() {
+        put_word(&mut s[4 * i..4 * i + 4], *x);
     }
 }

@@ -22,7 +22,7 @@ pub(crate) struct Taken {
     pub(crate) profile: Profile,
 }
 
-// Takes a field at a position of a slice: its header, its value, its range.
+// Takes a field at a position of a slice: its header, its value, its range. Document 01 names the form: the work is done on the slice and the number.
 pub(crate) fn take(s: &[u8], at: usize, field: Field, p: Profile) -> Result<Taken, Refusal>
     ensures { step_of at p result ≡ taken (place_of field) p s.now at }
 {

@@ -35,6 +35,7 @@ pub fn masks_passing(masks: [u32; 8]) -> usize
 pub fn level_good(level: f32) -> bool
     ensures { result ≡ is_level level }
 {
+    // Tried: of floats `contains` speaks by `partial_cmp`, and the check does not find that this is the rule's two tests.
     LEAST <= level && level <= MOST
 }
 
@@ -68,6 +69,7 @@ pub fn seeds_passing(mode: u8, seeds: [u32; 48]) -> usize
 fn is_floor(floor: f32) -> bool
     ensures { result ≡ is_floor floor }
 {
+    // Two tests, since a range holds its start, and 0.0 is out here.
     parts::bits_of_part(floor) == 0 || (0.0 < floor && floor <= MOST)
 }
 

@@ -19,6 +19,7 @@ fn first_like(masks: &[u32; 8], seeds: &[u32; 48], t: usize) -> usize
     requires { t < 48 }
     ensures { (result ≡ earliestOf masks.now seeds.now t) × (result ≤ t) }
 {
+    // No `find`: its closure would have to show for itself that u and t are slots.
     for u in t - t % 7..t {
         if are_alike(masks, seeds, u, t) {
             return u;
@@ -42,6 +43,7 @@ pub fn first_repeat(mode: u8, masks: [u32; 8], seeds: [u32; 48]) -> usize
     ensures { (result ≡ first_repeat (slots_of mode) masks seeds) × (result ≤ slots_of mode) }
 {
     let n = modes::slot_count(mode);
+    // No `find`: its closure would have to show for itself that t is a slot.
     for t in 0..n {
         let u = first_like(&masks, &seeds, t);
         if u < t {

@@ -18,6 +18,14 @@ room c z =
 pub loop-field-init : goal.loop-field-init
 loop-field-init c = store-start
 
+pub slice_bounds-put-end : goal.slice_bounds-put-end
+slice_bounds-put-end c =
+    omega (arith, room (goal.at.slice_bounds-put-end c).After-due-due (shaped (goal.at.slice_bounds-put-end c).Start))
+
+pub slice_bounds-put_value-end : goal.slice_bounds-put_value-end
+slice_bounds-put_value-end c =
+    omega (arith, room (goal.at.slice_bounds-put_value-end c).After-due-due (shaped (goal.at.slice_bounds-put_value-end c).Start), c.put.auto.s)
+
 pub put-requires : goal.put-requires
 put-requires c = (omega (arith, room (goal.at.put-requires c).After-due-due (shaped (goal.at.put-requires c).Start)), omega arith)
 
@@ -29,6 +37,6 @@ pub loop-field-preserved : goal.loop-field-preserved
 loop-field-preserved c =
     let turn = c.loop-field in
     store-more turn.invariant (shaped (goal.at.loop-field-preserved c).Start) (search rules)
-    (rw (place_at _ turn.field-index (search rules)) at c.due-due.ensures.0)
+    (rw (place_at _ turn.field-index (search rules)) at c.due-due.ensures.0) c.requires
     (rw (c.tag.ensures, place_at _ turn.field-index (search rules)) at c.put.ensures)
     (rw (place_at _ turn.field-index (search rules)) at c.put_value.ensures)

@@ -1,14 +1,12 @@
 -- The mode is the one byte.
-use Rattle.std.proofs.Common.{refl, arith, length, ◌+◌, ◌≤◌}
+use Rattle.std.proofs.Common.{◌∙◌, refl}
 use Rattle.profile.specs.Fields.{field}
 use Rattle.profile.proofs.fields.Field.put_value.Goals as goal
 
-pub bounds-s-at : goal.bounds-s-at
+pub copy_from_slice-requires : goal.copy_from_slice-requires
 unfolding field
-bounds-s-at c =
-    let fit : c.args.at + 1 ≤ length c.args.s.now = rw c.in-Mode.is at c.requires in
-    omega arith
+copy_from_slice-requires c = rw c.in-Mode.is at c.requires
 
 pub returns-in-Mode : goal.returns-in-Mode
 unfolding field
-returns-in-Mode c = rw c.in-Mode.is refl
+returns-in-Mode c = c.copy_from_slice.ensures.after ∙ rw c.in-Mode.is refl
