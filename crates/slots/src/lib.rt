@@ -1,4 +1,5 @@
-// Scrambling of a slot's bits. A bit is a byte that is 0 or 1; 2 is a doubtful one.
+// Scrambling of a slot's bits. A bit is a byte that is 0 or 1; 2 is a doubtful one. They are numbers and no enum: `scramble` takes any byte, and its rule
+// `unscrambled` and the state's bytes speak of numbers.
 #![tactic(auto)]
 
 ghost use Rattle.std.specs.Prelude.{◌≡◌, ℕ, ◌<◌, ◌≤◌, ◌%◌, ◌^◌, length};

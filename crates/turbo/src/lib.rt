@@ -93,6 +93,7 @@ fn ended(all: [u8; 3988], base: usize, register: u8) -> [u8; 3988]
 {
     let mut s = all;
     let mut state = register;
+    // Over the number of the period: what it puts out stands at two places of one array.
     for k in 0..3 {
         let p = last_period(state);
         s[base + 994 + k] = p.x;
@@ -103,7 +104,7 @@ fn ended(all: [u8; 3988], base: usize, register: u8) -> [u8; 3988]
 }
 
 // Both encoders' streams: X and X' are there, and Y0 and Y'0 are filled in, with the ends of all four. A turn has a period of each
-// encoder, since neither waits for the other.
+// encoder, since neither waits for the other. It goes over the number i, which is a place in each of four streams of one array.
 fn encoded(all: [u8; 3988]) -> [u8; 3988]
     requires { Bits all }
     ensures { Holds 0 3988 (stream (row all) (from (row all) 1994)) result }
