@@ -21,35 +21,11 @@ mod blocks;
 pub use blocks::{Verdicts, code_block, judge_block};
 use rules::{CodingError, Reason};
 
-// What the feedback of register s adds to the bit that comes in.
-fn feedback(s: u8) -> u8
-    ensures { result ≡ rule.feedback s }
-{
-    (s / 2 % 2 + s % 2) % 2
-}
-
-// The parity where a enters register s.
-fn parity(a: u8, s: u8) -> u8
-    requires { (a < 2) × (s < 8) }
-    ensures { result ≡ rule.parity_of a s }
-{
-    (a + s / 4 + s % 2) % 2
-}
-
-// What enters register s at bit b.
-fn entering(b: u8, s: u8) -> u8
-    requires { b < 2 }
-    ensures { (result ≡ rule.entering b s) × (result < 2) }
-{
-    (b + feedback(s)) % 2
-}
-
-// a enters register s.
-fn shifted(a: u8, s: u8) -> u8
-    requires { (a < 2) × (s < 8) }
-    ensures { (result ≡ rule.shift a s) × (result < 8) }
-{
-    a * 4 + s / 2
+// An encoder's register of three bits.
+#[derive(Clone, Copy)]
+struct Register {
+    bits: u8,
+    ghost three: { bits < 8 },
 }
 
 // What an encoder puts out in one period, and its register then.
@@ -57,45 +33,64 @@ fn shifted(a: u8, s: u8) -> u8
 struct Period {
     x: u8,
     y0: u8,
-    register: u8,
+    register: Register,
 }
 
-// The period of bit b.
-fn data_period(b: u8, s: u8) -> Period
-    requires { (b < 2) × (s < 8) }
-    ensures { Puts b (rule.entering b s) s result }
-{
-    let a = entering(b, s);
-    Period {
-        x: b,
-        y0: parity(a, s),
-        register: shifted(a, s),
+impl Register {
+    // As an encoder begins.
+    fn new() -> Register
+        ensures { result.bits ≡ 0 }
+    {
+        Register { bits: 0 }
     }
-}
 
-// A period that ends the encoder: its register input is zero, and X is the feedback bit.
-fn last_period(s: u8) -> Period
-    requires { s < 8 }
-    ensures { Puts (rule.feedback s) 0 s result }
-{
-    let a = 0;
-    Period {
-        x: feedback(s),
-        y0: parity(a, s),
-        register: shifted(a, s),
+    // What the feedback adds to the bit that comes in.
+    fn feedback(self) -> u8
+        ensures { (result ≡ rule.feedback self.bits) × (result < 2) }
+    {
+        (self.bits / 2 % 2 + self.bits % 2) % 2
+    }
+
+    // The period where x is put out and a enters the register.
+    fn period(self, x: u8, a: u8) -> Period
+        requires { a < 2 }
+        ensures { Puts x a self.bits result.x result.y0 result.register.bits }
+    {
+        Period {
+            x,
+            y0: (a + self.bits / 4 + self.bits % 2) % 2,
+            register: Register {
+                bits: a * 4 + self.bits / 2,
+            },
+        }
+    }
+
+    // The period of bit b.
+    fn data_period(self, b: u8) -> Period
+        requires { b < 2 }
+        ensures { Puts b (rule.entering b self.bits) self.bits result.x result.y0 result.register.bits }
+    {
+        self.period(b, (b + self.feedback()) % 2)
+    }
+
+    // A period that ends the encoder: its register input is zero, and X is the feedback bit.
+    fn last_period(self) -> Period
+        ensures { Puts (rule.feedback self.bits) 0 self.bits result.x result.y0 result.register.bits }
+    {
+        self.period(self.feedback(), 0)
     }
 }
 
 // The three periods that end the encoder whose two streams begin at base.
-fn ended(all: [u8; 3988], base: usize, register: u8) -> [u8; 3988]
-    requires { (base + 1994 ≤ 3988) × (register < 8) }
-    ensures { Holds 0 3988 (with_ends base register (row all)) result }
+fn ended(all: [u8; 3988], base: usize, register: Register) -> [u8; 3988]
+    requires { base + 1994 ≤ 3988 }
+    ensures { Holds 0 3988 (with_ends base register.bits (row all)) result }
 {
     let mut s = all;
     let mut state = register;
     // Over the number of the period: what it puts out stands at two places of one array.
     for k in 0..3 {
-        let p = last_period(state);
+        let p = state.last_period();
         s[base + 994 + k] = p.x;
         s[base + 1991 + k] = p.y0;
         state = p.register;
@@ -110,11 +105,11 @@ fn encoded(all: [u8; 3988]) -> [u8; 3988]
     ensures { Holds 0 3988 (stream (row all) (from (row all) 1994)) result }
 {
     let mut s = all;
-    let mut first = 0u8;
-    let mut second = 0u8;
+    let mut first = Register::new();
+    let mut second = Register::new();
     for i in 0..994 {
-        let p = data_period(s[i], first);
-        let q = data_period(s[1994 + i], second);
+        let p = first.data_period(s[i]);
+        let q = second.data_period(s[1994 + i]);
         s[997 + i] = p.y0;
         s[2991 + i] = q.y0;
         first = p.register;
