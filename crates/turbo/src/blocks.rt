@@ -26,6 +26,7 @@ pub fn code_block(mode: u8, block: [u8; 1952]) -> [u8; 48000]
     let encoder = Encoder::new(mode);
     let n = modes::packet_bits(mode);
     let mut bits = [0u8; 48000];
+    // Over p, the packet's number: a place in the block and in the bits. Of what is written through chunks_exact_mut nothing would be known.
     for p in 0..16 {
         let from = 122 * p;
         let at = n * p;

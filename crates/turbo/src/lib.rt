@@ -164,6 +164,7 @@ impl Encoder {
         ensures { Holds 0 3988 (with_data (row x)) result }
     {
         let mut s = [0u8; 3988];
+        // Over i: a place in two streams of one array and in the addresses.
         for i in 0..994 {
             s[i] = x[i];
             s[1994 + i] = x[usize::from(self.addresses[i])];
@@ -204,6 +205,7 @@ impl Encoder {
         ensures { result ≡ same_bits (packet_bits self.now.mode) (row v.now) (sent_from self.now.mode (row all)) }
     {
         let mut same = true;
+        // Over i, as many as the mode has: the decided bits and the places are longer lists.
         for i in 0..modes::packet_bits(self.mode) {
             same &= v[i] == all[usize::from(self.places[i])];
         }
@@ -236,6 +238,7 @@ fn plain(v: &[u8]) -> bool
     plain
 }
 
+// Who reads decided bits asks that there are as many as the mode has. It is no type of its own: that would hold the mode once more, which the encoder has.
 // What judges a mode's packets: their encoder, and as which bits a packet's own are sent.
 #[derive(Drop)]
 struct Decoder {
