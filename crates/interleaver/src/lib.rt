@@ -45,6 +45,7 @@ fn next_kept(m: u16) -> Kept
     requires { next_kept (rule.address 5 (row table_d)) 994 1024 m < 1024 }
     ensures { (result.counter ≡ next_kept (rule.address 5 (row table_d)) 994 1024 m) × (result.address ≡ rule.address 5 (row table_d) result.counter) }
 {
+    // Document 01 names this form: a loop that yields its value by break.
     let mut counter = m;
     loop {
         let address = address(counter);

@@ -1,4 +1,4 @@
-// A packet's bits and its check word. A bit is a byte that is 0 or 1.
+// A packet's bits and its check word. A bit is a byte that is 0 or 1: a number, since the public functions take any byte, and their rules speak of numbers.
 #![tactic(auto)]
 
 ghost use Rattle.std.specs.Prelude.{◌≡◌, ◌*◌, ◌%◌, length};

@@ -91,20 +91,8 @@ pub fn places(mode: u8) -> [u16; 3000]
     out
 }
 
-// Where bit i of the packet itself stands in what is sent at rate 2/3: each pattern has Y0 after the first of its four bits.
-fn data_place_two_thirds(i: usize) -> usize
-    requires { i < 994 }
-    ensures { result ≡ rule.data_place Rate.TwoThirds i }
-{
-    let begin = 6 * (i / 4);
-    if i % 4 == 0 {
-        begin
-    } else {
-        begin + (i % 4 + 1)
-    }
-}
-
-// Where it stands at any rate.
+// Where bit i of the packet itself stands in what is sent. It is no pattern's place that is looked up: at each rate these places have a rule of their own. At
+// 2/3 each pattern has Y0 after the first of its four bits.
 fn data_place(rate: Rate, i: usize) -> usize
     requires { i < 994 }
     ensures { result ≡ rule.data_place rate i }
@@ -112,7 +100,8 @@ fn data_place(rate: Rate, i: usize) -> usize
     match rate {
         Rate::Half => 2 * i,
         Rate::Third => 3 * i,
-        Rate::TwoThirds => data_place_two_thirds(i),
+        Rate::TwoThirds if i % 4 == 0 => 6 * (i / 4),
+        Rate::TwoThirds => 6 * (i / 4) + (i % 4 + 1),
     }
 }
 

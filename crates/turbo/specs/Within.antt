@@ -3,7 +3,6 @@ use Rattle.std.specs.Prelude.{◌≡◌, ℕ, zero, suc, ◌+◌, ◌-◌, ◌<�
 use Rattle.rules.specs.Turbo.{feedback, parity_of, shift}
 use Rattle.rules.specs.Slots.{second}
 use Rattle.laws.specs.Filled.{up_to}
-use Rattle.turbo.specs.declared.Period.{Period}
 
 -- g, but the first n elements of f from a on
 unfoldable pub within : ℕ → ℕ → (ℕ → ℕ) → (ℕ → ℕ) → ℕ → ℕ
@@ -26,9 +25,8 @@ with_data x = within 0 994 x (within 1994 994 (second x) (λ k. 0))
 abbrev pub with_ends : ℕ → ℕ → (ℕ → ℕ) → ℕ → ℕ
 with_ends a s g = within (a + 994) 3 (λ k. feedback (after_zeros s k)) (within (a + 1991) 3 (λ k. parity_of 0 (after_zeros s k)) g)
 
--- one period: x is put out, and a enters register s
-pub record Puts (x a s : ℕ) (p : Period) : Type 0 where
-  pub x_is : p.x ≡ x
-  pub y0_is : p.y0 ≡ parity_of a s
-  pub register_is : p.register ≡ shift a s
-  pub register_lt : p.register < 8
+-- one period: x is put out as o with the parity y0, and a enters register s, which is t then
+pub record Puts (x a s o y0 t : ℕ) : Type 0 where
+  pub x_is : o ≡ x
+  pub y0_is : y0 ≡ parity_of a s
+  pub register_is : t ≡ shift a s

@@ -10,7 +10,8 @@ ghost use Rattle.turbo.specs.Blocks.{coded_row, Weighed, WeighedTo};
 use super::{Decoder, Encoder};
 use rules::Reason;
 
-// The lost mask, the reasons, and the block of what is accepted, with zeros for what is lost.
+// The lost mask, the reasons, and the block of what is accepted, with zeros for what is lost. The reasons are numbers, 0 for none, as a Receipt has them:
+// that is C's, and `WeighedTo` speaks of numbers.
 #[derive(Clone, Copy)]
 pub struct Verdicts {
     pub lost: u16,
@@ -25,6 +26,7 @@ pub fn code_block(mode: u8, block: [u8; 1952]) -> [u8; 48000]
     let encoder = Encoder::new(mode);
     let n = modes::packet_bits(mode);
     let mut bits = [0u8; 48000];
+    // Over p, the packet's number: a place in the block and in the bits. Of what is written through chunks_exact_mut nothing would be known.
     for p in 0..16 {
         let from = 122 * p;
         let at = n * p;
@@ -53,6 +55,7 @@ pub fn judge_block(mode: u8, marks: u16, bits: [u8; 48000]) -> Verdicts
     let mut lost = 0u16;
     let mut reasons = [0u8; 16];
     let mut block = [0u8; 1952];
+    // Over p, the packet's number: a place in the marks, the mask, the reasons, the bits and the block.
     for p in 0..16 {
         let at = n * p;
         match weigh(&decoder, marks, p, &bits[at..at + n]) {

@@ -21,35 +21,11 @@ mod blocks;
 pub use blocks::{Verdicts, code_block, judge_block};
 use rules::{CodingError, Reason};
 
-// What the feedback of register s adds to the bit that comes in.
-fn feedback(s: u8) -> u8
-    ensures { result ≡ rule.feedback s }
-{
-    (s / 2 % 2 + s % 2) % 2
-}
-
-// The parity where a enters register s.
-fn parity(a: u8, s: u8) -> u8
-    requires { (a < 2) × (s < 8) }
-    ensures { result ≡ rule.parity_of a s }
-{
-    (a + s / 4 + s % 2) % 2
-}
-
-// What enters register s at bit b.
-fn entering(b: u8, s: u8) -> u8
-    requires { b < 2 }
-    ensures { (result ≡ rule.entering b s) × (result < 2) }
-{
-    (b + feedback(s)) % 2
-}
-
-// a enters register s.
-fn shifted(a: u8, s: u8) -> u8
-    requires { (a < 2) × (s < 8) }
-    ensures { (result ≡ rule.shift a s) × (result < 8) }
-{
-    a * 4 + s / 2
+// An encoder's register of three bits.
+#[derive(Clone, Copy)]
+struct Register {
+    bits: u8,
+    ghost three: { bits < 8 },
 }
 
 // What an encoder puts out in one period, and its register then.
@@ -57,44 +33,64 @@ fn shifted(a: u8, s: u8) -> u8
 struct Period {
     x: u8,
     y0: u8,
-    register: u8,
+    register: Register,
 }
 
-// The period of bit b.
-fn data_period(b: u8, s: u8) -> Period
-    requires { (b < 2) × (s < 8) }
-    ensures { Puts b (rule.entering b s) s result }
-{
-    let a = entering(b, s);
-    Period {
-        x: b,
-        y0: parity(a, s),
-        register: shifted(a, s),
+impl Register {
+    // As an encoder begins.
+    fn new() -> Register
+        ensures { result.bits ≡ 0 }
+    {
+        Register { bits: 0 }
     }
-}
 
-// A period that ends the encoder: its register input is zero, and X is the feedback bit.
-fn last_period(s: u8) -> Period
-    requires { s < 8 }
-    ensures { Puts (rule.feedback s) 0 s result }
-{
-    let a = 0;
-    Period {
-        x: feedback(s),
-        y0: parity(a, s),
-        register: shifted(a, s),
+    // What the feedback adds to the bit that comes in.
+    fn feedback(self) -> u8
+        ensures { (result ≡ rule.feedback self.bits) × (result < 2) }
+    {
+        (self.bits / 2 % 2 + self.bits % 2) % 2
+    }
+
+    // The period where x is put out and a enters the register.
+    fn period(self, x: u8, a: u8) -> Period
+        requires { a < 2 }
+        ensures { Puts x a self.bits result.x result.y0 result.register.bits }
+    {
+        Period {
+            x,
+            y0: (a + self.bits / 4 + self.bits % 2) % 2,
+            register: Register {
+                bits: a * 4 + self.bits / 2,
+            },
+        }
+    }
+
+    // The period of bit b.
+    fn data_period(self, b: u8) -> Period
+        requires { b < 2 }
+        ensures { Puts b (rule.entering b self.bits) self.bits result.x result.y0 result.register.bits }
+    {
+        self.period(b, (b + self.feedback()) % 2)
+    }
+
+    // A period that ends the encoder: its register input is zero, and X is the feedback bit.
+    fn last_period(self) -> Period
+        ensures { Puts (rule.feedback self.bits) 0 self.bits result.x result.y0 result.register.bits }
+    {
+        self.period(self.feedback(), 0)
     }
 }
 
 // The three periods that end the encoder whose two streams begin at base.
-fn ended(all: [u8; 3988], base: usize, register: u8) -> [u8; 3988]
-    requires { (base + 1994 ≤ 3988) × (register < 8) }
-    ensures { Holds 0 3988 (with_ends base register (row all)) result }
+fn ended(all: [u8; 3988], base: usize, register: Register) -> [u8; 3988]
+    requires { base + 1994 ≤ 3988 }
+    ensures { Holds 0 3988 (with_ends base register.bits (row all)) result }
 {
     let mut s = all;
     let mut state = register;
+    // Over the number of the period: what it puts out stands at two places of one array.
     for k in 0..3 {
-        let p = last_period(state);
+        let p = state.last_period();
         s[base + 994 + k] = p.x;
         s[base + 1991 + k] = p.y0;
         state = p.register;
@@ -103,17 +99,17 @@ fn ended(all: [u8; 3988], base: usize, register: u8) -> [u8; 3988]
 }
 
 // Both encoders' streams: X and X' are there, and Y0 and Y'0 are filled in, with the ends of all four. A turn has a period of each
-// encoder, since neither waits for the other.
+// encoder, since neither waits for the other. It goes over the number i, which is a place in each of four streams of one array.
 fn encoded(all: [u8; 3988]) -> [u8; 3988]
     requires { Bits all }
     ensures { Holds 0 3988 (stream (row all) (from (row all) 1994)) result }
 {
     let mut s = all;
-    let mut first = 0u8;
-    let mut second = 0u8;
+    let mut first = Register::new();
+    let mut second = Register::new();
     for i in 0..994 {
-        let p = data_period(s[i], first);
-        let q = data_period(s[1994 + i], second);
+        let p = first.data_period(s[i]);
+        let q = second.data_period(s[1994 + i]);
         s[997 + i] = p.y0;
         s[2991 + i] = q.y0;
         first = p.register;
@@ -168,6 +164,7 @@ impl Encoder {
         ensures { Holds 0 3988 (with_data (row x)) result }
     {
         let mut s = [0u8; 3988];
+        // Over i: a place in two streams of one array and in the addresses.
         for i in 0..994 {
             s[i] = x[i];
             s[1994 + i] = x[usize::from(self.addresses[i])];
@@ -208,6 +205,7 @@ impl Encoder {
         ensures { result ≡ same_bits (packet_bits self.now.mode) (row v.now) (sent_from self.now.mode (row all)) }
     {
         let mut same = true;
+        // Over i, as many as the mode has: the decided bits and the places are longer lists.
         for i in 0..modes::packet_bits(self.mode) {
             same &= v[i] == all[usize::from(self.places[i])];
         }
@@ -240,6 +238,7 @@ fn plain(v: &[u8]) -> bool
     plain
 }
 
+// Who reads decided bits asks that there are as many as the mode has. It is no type of its own: that would hold the mode once more, which the encoder has.
 // What judges a mode's packets: their encoder, and as which bits a packet's own are sent.
 #[derive(Drop)]
 struct Decoder {

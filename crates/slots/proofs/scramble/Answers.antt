@@ -21,7 +21,9 @@ use Rattle.slots.proofs.scramble.Goals as goal
 
 -- element i of what is added
 put : (c : After-outputs-out) (i : ℕ) → i < c.min-n.result → (let a = c.args in row c.outputs-out.result i ≡ scrambling a.seed a.mask i)
-put c i lt = let a = c.args in c.outputs-out.ensures i lt ∙ scrambling-low a.seed a.mask i
+put c i lt =
+    let a = c.args in
+    c.outputs-out.ensures i lt ∙ ap₂ (λ (s m : ℕ). scrambling s m i) c.new.ensures.0 c.new.ensures.1 ∙ scrambling-low a.seed a.mask i
 
 -- where the slot's bits are scrambled, the list is as the rule says
 module _ (seed mask : ℕ) (l done : List ℕ) (n : ℕ) (is : n ≡ min (length l) 2000) where

@@ -1,6 +1,6 @@
 -- `encoded` fills in the four streams: before turn i, i parities of both encoders and their registers' states are there.
 use mathlib.Core.Path.{◌≡◌}
-use Prim.Native.Nat.{ℕ, ◌<◌, ◌≤◌}
+use Prim.Native.Nat.{ℕ, ◌≤◌}
 use Rattle.rules.specs.Bits.{row}
 use Rattle.rules.specs.Turbo.{state, y0}
 use Rattle.laws.specs.Holds.{Holds}
@@ -14,8 +14,6 @@ walked i g = within 997 i (y0 g) (within 2991 i (y0 (from g 1994)) g)
 abbrev pub invariant-loop-i : goal.invariant-loop-i
 invariant-loop-i l =
     (l.i ≤ 994)
-    × (l.first < 8)
-    × (l.second < 8)
-    × (l.first ≡ state (row l.initial.s) l.i)
-    × (l.second ≡ state (from (row l.initial.s) 1994) l.i)
+    × (l.first.bits ≡ state (row l.initial.s) l.i)
+    × (l.second.bits ≡ state (from (row l.initial.s) 1994) l.i)
     × Holds 0 3988 (walked l.i (row l.initial.s)) l.s

@@ -17,7 +17,7 @@ later s k = rw add-one
 
 pub loop-k-init : goal.loop-k-init
 unfolding after_zeros
-loop-k-init c = (omega arith, c.requires.1, refl, unfilled _ _ _ _ _ _ (search rules) (λ k lt. refl))
+loop-k-init c = (omega arith, refl, unfilled _ _ _ _ _ _ (search rules) (λ k lt. refl))
 
 pub loop-k-preserved : goal.loop-k-preserved
 loop-k-preserved c =
@@ -25,15 +25,14 @@ loop-k-preserved c =
     let l = c.loop-k in
     let p = c.last_period-p.ensures in (
       omega arith,
-      p.register_lt,
-      p.register_is ∙ ap (shift 0) l.invariant.2 ∙ sym (later args.register l.k),
-      both_stored (args.base + 994) (args.base + 1991) l.k (args.base + 994 + l.k) (args.base + 1991 + l.k) _ _ (last_x args.register)
-          (last_y0 args.register) (row args.all) refl refl (omega arith) (omega arith) (p.x_is ∙ ap feedback l.invariant.2)
-          (p.y0_is ∙ ap (parity_of 0) l.invariant.2) l.invariant.3,
+      p.register_is ∙ ap (shift 0) l.invariant.1 ∙ sym (later args.register.bits l.k),
+      both_stored (args.base + 994) (args.base + 1991) l.k (args.base + 994 + l.k) (args.base + 1991 + l.k) _ _ (last_x args.register.bits)
+          (last_y0 args.register.bits) (row args.all) refl refl (omega arith) (omega arith) (p.x_is ∙ ap feedback l.invariant.1)
+          (p.y0_is ∙ ap (parity_of 0) l.invariant.1) l.invariant.2,
     )
 
 pub returns : goal.returns
 returns c =
     let l = c.loop-k in
     let all : l.k ≡ 3 = omega arith in
-    rw all at l.invariant.3
+    rw all at l.invariant.2

@@ -1,8 +1,8 @@
--- `slots::stepped` meets its contract.
+-- `Scrambler::stepped` meets its contract.
 use mathlib.Core.Path.{refl}
 use Rattle.rules.specs.Slots.{scrambler_step}
-use Rattle.slots.proofs.stepped.Goals as goal
+use Rattle.slots.proofs.Scrambler.stepped.Goals as goal
 
 pub returns : goal.returns
 unfolding scrambler_step
-returns c = refl
+returns c = (refl, refl)

@@ -1,4 +1,4 @@
--- `slots::output` meets its contract: the ones of state AND mask are the places where both have one.
+-- `slots::Scrambler::output` meets its contract: the ones of state AND mask are the places where both have one.
 use mathlib.Core.Path.{◌≡◌, ◌∙◌, ap, ap₂}
 use Prim.Native.Nat.{ℕ, zero, suc, ◌+◌, ◌*◌, ◌/◌, ◌%◌, ◌^◌, ◌<◌, min}
 use native.Mathlib.Nat.{pow-suc}
@@ -6,7 +6,7 @@ use native.Mathlib.Omega.{arith}
 use lib.Bits.{bit_and, and_step}
 use lib.Count.{ones, ones_step}
 use Rattle.rules.specs.Slots.{both}
-use Rattle.slots.proofs.output.Goals as goal
+use Rattle.slots.proofs.Scrambler.output.Goals as goal
 
 low : (a b : ℕ) → bit_and a b % 2 ≡ min (a % 2) (b % 2)
 low a b = omega (arith, and_step a b)
@@ -25,4 +25,4 @@ ones-both (suc w) a b h =
     ∙ ap (λ (x : ℕ). min (a % 2) (b % 2) + x) (ones-both w (a / 2) (b / 2) (half_lt w h))
 
 pub returns : goal.returns
-returns c = ap (λ (x : ℕ). x % 2) (ones-both 20 c.args.state c.args.mask c.requires)
+returns c = ap (λ (x : ℕ). x % 2) (ones-both 20 c.args.self.state c.args.self.mask c.args.self.small)
