@@ -1,5 +1,5 @@
 -- A row of which a loop has written a part, and what the steps of encoding make.
-use Rattle.std.specs.Prelude.{◌≡◌, ℕ, zero, suc, ◌+◌, ◌-◌, ◌<◌}
+use Rattle.std.specs.Prelude.{◌≡◌, ℕ, zero, suc, ◌+◌, ◌-◌}
 use Rattle.rules.specs.Turbo.{feedback, parity_of, shift}
 use Rattle.rules.specs.Slots.{second}
 use Rattle.laws.specs.Filled.{up_to}
