@@ -50,7 +50,7 @@ fn read_pair(program: Program<'_>) -> Result<u16, Stop> {
     Ok(u16::from_be_bytes(two))
 }
 
-// How many bytes of cells are due.
+// How many bytes of cells are due. Program and profile go together from here on: both are copied values that no fact joins, and a struct would only rename them.
 fn due(p: Profile) -> usize {
     2 * PARTS * modes::symbol_count(p.mode)
 }
@@ -63,7 +63,8 @@ fn cut(program: Program<'_>, p: Profile, came: usize) -> Result<(), Stop> {
     Err(Stop::Refused(refusal))
 }
 
-// Reads one symbol's first or second parts, which stand behind so many bytes of cells.
+// Reads one symbol's first or second parts, which stand behind so many bytes of cells. compare's loop is alike, and keeps patterns: what both have in common is
+// one line.
 fn read_parts(program: Program<'_>, p: Profile, before: usize, list: &mut [f32]) -> Result<(), Stop>
     requires { before ≤ 229376 }
 {
