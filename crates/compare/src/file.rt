@@ -107,7 +107,7 @@ impl CellFile<'_> {
         }
     }
 
-    // Reads one symbol's first or second parts, four bytes each.
+    // Reads one symbol's first or second parts, four bytes each. They go into a lent list: manners' `numbers_at` hands one out, which would be a copy more.
     fn read_parts(&mut self, list: &mut [u32; CELLS]) -> Result<(), Said> {
         let mut bytes = [0u8; PARTS];
         if read_full(&mut self.file, &mut bytes) < PARTS {

@@ -2,7 +2,8 @@
 use rules::Refusal;
 use std::fmt;
 
-// The fields of a profile whose numbers have a range.
+// The fields of a profile whose numbers have a range. profile_text has its own, by the words of a text, and `profile` the parts of its bytes, to which tag and
+// mode belong too: each names them in its own way, and what one has the other does not need.
 #[derive(Clone, Copy, Debug, PartialEq, Eq)]
 pub enum Field {
     Mask,
@@ -173,7 +174,7 @@ pub fn half(level: u32) -> u32 {
 
 // Whether a level is in its range, by its pattern: what refuses it is then the mode.
 fn is_level(x: u32) -> bool {
-    0x0080_0000 <= x && x <= 0x7F7F_FFFF
+    matches!(x, 0x0080_0000..=0x7F7F_FFFF)
 }
 
 // The places of fields in a profile's bytes.
@@ -183,7 +184,8 @@ const LEVEL_AT: usize = 38;
 
 pub(crate) const SEEDS_AT: usize = 53;
 
-// The numbers of four bytes each from a place of a profile on; zeros after the bytes' end.
+// The numbers of four bytes each from a place of a profile on; zeros after the bytes' end. compare and receive walk their parts by the same loop: theirs
+// fill a lent list of 4096, and one of them f32s, so one function would copy a list or take a closure for two lines.
 pub(crate) fn numbers_at<const N: usize>(bytes: &[u8], place: usize) -> [u32; N] {
     let mut list = [0; N];
     let (fours, _) = bytes.get(place..).unwrap_or(&[]).as_chunks::<4>();

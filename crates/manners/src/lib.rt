@@ -17,8 +17,9 @@ mod refuse;
 pub mod twin;
 pub mod words;
 
-ghost use Rattle.std.specs.Prelude.{◌≡◌, ◌≤◌, length, IfOk, Ok, is_ok};
+ghost use Rattle.std.specs.Prelude.{◌≡◌, ◌≤◌, ◌⊎◌, length, IfOk, IfErr, Ok, is_ok};
 
+use rules::Refusal;
 use std::env::{Env, FillError};
 use std::fmt::Display;
 use std::io::{Error, ErrorKind, Read};
@@ -31,7 +32,7 @@ pub const PATH_MAX: usize = 4096;
 // The system's numbers for a word that is not there, and for one that is too long.
 const EINVAL: i32 = 22;
 
-const ENAMETOOLONG: i32 = 36;
+pub const ENAMETOOLONG: i32 = 36;
 
 // A program as it speaks.
 #[derive(Clone, Copy)]
@@ -51,6 +52,26 @@ impl fmt::Display for Said {
 }
 
 impl std::error::Error for Said {}
+
+// What ends the reading of input, and was said: a refusal, or that the input can't be read.
+#[derive(Clone, Copy, Debug, PartialEq, Eq)]
+pub enum Stop {
+    Refused(Refusal),
+    Unread,
+}
+
+// Only input that can't be read is said without a refusal.
+impl From<Said> for Stop {
+    fn from(_: Said) -> Stop {
+        Stop::Unread
+    }
+}
+
+impl From<Stop> for Said {
+    fn from(_: Stop) -> Said {
+        Said
+    }
+}
 
 // What the words after a program's name are.
 #[derive(Clone, Copy, Debug, PartialEq, Eq)]
@@ -87,9 +108,7 @@ impl Program<'_> {
 
     // Whether the first word is --help.
     fn is_help(self) -> bool {
-        let mut room = [0u8; 8];
-        let n = self.word(1, &mut room).unwrap_or(0);
-        matches!(&room[..n], b"--help")
+        matches!(self.word_in(1, &mut [0u8; 8]), Ok(b"--help"))
     }
 
     // Whether argument i can be a word of a program's: it is not empty, and only --help begins with a dash. Of a word that is longer than the buffer
@@ -108,6 +127,14 @@ impl Program<'_> {
             FillError::TooLong => Error::from_raw_os_error(ENAMETOOLONG),
             FillError::NotPresent => Error::from_raw_os_error(EINVAL),
         })
+    }
+
+    // Argument i, put at the start of a buffer, or why it can't be.
+    pub fn word_in<'b>(self, i: usize, room: &'b mut [u8]) -> io::Result<&'b [u8]>
+        ensures { IfOk result (λ word. length word.now ≤ length room.old) }
+    {
+        let n = self.word(i, room)?;
+        Ok(&room[..n])
     }
 }
 
@@ -164,6 +191,21 @@ impl Program<'_> {
     pub fn input_ended(self) -> Result<(), Said> {
         self.tried("read standard input", self.rt.stdin().read(&mut [0u8; 1]))?;
         Ok(())
+    }
+
+    // Fills a buffer from standard input: input that ends before is refused, as ending before what is named does, unless it did not end.
+    pub fn read_whole(self, room: &mut [u8], what: &str) -> Result<(), Stop>
+        ensures { IfErr result (λ stop. (stop ≡ Stop.Unread) ⊎ (stop ≡ Stop.Refused Refusal.EndsInField)) }
+    {
+        if read_full(&mut self.rt.stdin(), room) == room.len() {
+            return Ok(());
+        }
+        if self.input_ended().is_err() {
+            return Err(Stop::Unread);
+        }
+        let refusal = Refusal::EndsInField;
+        self.refuse_short_input(refusal, what);
+        Err(Stop::Refused(refusal))
     }
 }
 

@@ -1,5 +1,5 @@
 // What came from outside the programs, as they show it.
-ghost use Rattle.std.specs.Prelude.{◌≤◌};
+ghost use Rattle.std.specs.Prelude.{◌+◌, ◌≤◌, length};
 
 use std::fmt;
 use std::fmt::Write;
@@ -26,14 +26,14 @@ fn plain(b: u8) -> char {
     }
 }
 
-// The system's words for an error, without its number; of an error that the system has no words for, what std says.
+// The system's words for an error, without its number; of an error that the system has no words for, what std says. What finds no room is cut.
 #[derive(Clone, Copy)]
 pub struct SystemWords<'a>(pub &'a Error);
 
 impl fmt::Display for SystemWords<'_> {
     fn fmt<W: fmt::Write>(&self, f: &mut fmt::Formatter<W>) -> fmt::Result {
         let mut said = Text::<ROOM>::new();
-        write!(said, "{}", self.0)?;
+        let _ = write!(said, "{}", self.0);
         let all = said.as_str();
         match all.rsplit_once(" (os error ") {
             Some((words, _)) if self.0.raw_os_error().is_some() => f.write_str(words),
@@ -45,7 +45,7 @@ impl fmt::Display for SystemWords<'_> {
 // Room for what std says of an error: words of at most 256 bytes, and the error's number.
 const ROOM: usize = 288;
 
-// Text in fixed memory: what finds no room in it is an error.
+// Text in fixed memory: what finds no room in it is cut, and an error.
 #[derive(Drop)]
 pub struct Text<const N: usize> {
     bytes: [u8; N],
@@ -61,20 +61,29 @@ impl<const N: usize> Text<N> {
         }
     }
 
+    // Without a character at its end that was cut.
     pub fn as_str(&self) -> &str {
-        str::from_utf8(&self.bytes[..self.len]).unwrap_or("")
+        let mut runs = self.bytes[..self.len].utf8_chunks();
+        runs.next().map_or("", |run| run.valid())
+    }
+
+    fn put(&mut self, bytes: &[u8])
+        requires { self.old.len + length bytes.now ≤ N }
+    {
+        let end = self.len + bytes.len();
+        let room = &mut self.bytes[..];
+        room[self.len..end].copy_from_slice(bytes);
+        self.len = end;
     }
 }
 
 impl<const N: usize> fmt::Write for Text<N> {
     fn write_str(&mut self, s: &str) -> fmt::Result {
         if N - self.len < s.len() {
+            self.put(&s.as_bytes()[..N - self.len]);
             return Err(fmt::Error);
         }
-        let end = self.len + s.len();
-        let room = &mut self.bytes[..];
-        room[self.len..end].copy_from_slice(s.as_bytes());
-        self.len = end;
+        self.put(s.as_bytes());
         Ok(())
     }
 }

@@ -26,7 +26,8 @@ pub fn read(text: &[u8]) -> Result<Profile, Refused<'_>> {
     draft.profile().map_err(Refused::in_text)
 }
 
-// The first numbers of a field, and how many of its numbers there are: those after the most that it has are only counted.
+// The first numbers of a field, and how many of its numbers there are: those after the most that it has are only counted. The count stands beside the list
+// and is no slice's length, since it goes on past it: a message names it.
 #[derive(Clone, Copy)]
 struct Numbers<const N: usize> {
     values: [u32; N],
@@ -118,7 +119,7 @@ impl<'a> FieldLine<'a> {
         Ok(x)
     }
 
-    // That of a mode or a K: what is in their ranges is a byte.
+    // That of a mode or a K: what is in their ranges is a byte. A `try_from` would need a way out that is never taken.
     fn byte(self) -> Result<u8, Mistake<'a>> {
         let x = self.only()?;
         Ok((x & 0xff) as u8)

@@ -2,6 +2,7 @@
 use manners::field;
 use std::fmt;
 
+// As a text names them. manners has its own, by what one number of a field is called, of which a text knows nothing.
 #[derive(Clone, Copy, PartialEq, Eq)]
 pub enum Field {
     Masks,

@@ -2,15 +2,12 @@
 // the name stands for what it did before or for the whole data. What is there already and no regular file, as a device or a pipe, has no
 // place for a new name, and the data is written into it. A link is refused: the new file would take the place of the link.
 use manners::words::{Foreign, Text};
-use manners::{PATH_MAX, Program, Said, named};
+use manners::{ENAMETOOLONG, PATH_MAX, Program, Said, named};
 use std::fmt::Write as _;
 use std::fs::{File, OpenOptions};
 use std::io::{Error, ErrorKind, Seek, SeekFrom, Write};
 use std::random::RandomSource;
 use std::{fmt, fs, io};
-
-// The system's number for a name that is too long.
-const ENAMETOOLONG: i32 = 36;
 
 // Keeps the data under the name, or says why it can't.
 pub fn keep(program: Program<'_>, path: &[u8], data: &[u8]) -> Result<(), Said> {

@@ -8,7 +8,7 @@ mod file;
 
 ghost use Rattle.std.specs.Prelude.{◌<◌, ◌≤◌};
 
-use manners::{PATH_MAX, Program, Request, Said, read_full};
+use manners::{PATH_MAX, Program, Request, Said, Stop, read_full};
 use rules::{Profile, Receipt, Refusal};
 use std::fmt;
 
@@ -18,39 +18,17 @@ const PARTS: usize = 16_384;
 // Bytes of the state that feeding keeps: how many cells have come, and a byte for each cell of the largest grid.
 const STATE: usize = 28_674;
 
-// What ends the receiving before the data is asked for, and was said.
-#[derive(Clone, Copy)]
-enum Stop {
-    Refused(Refusal),
-    Unread,
-}
-
-// Only input that can't be read is said without a refusal.
-impl From<Said> for Stop {
-    fn from(_: Said) -> Stop {
-        Stop::Unread
-    }
-}
-
-// Reads a part of what stands before the cells: input that ends inside it is refused, unless it did not end.
-fn read_whole(program: Program<'_>, room: &mut [u8]) -> Result<(), Stop> {
-    if read_full(&mut program.rt.stdin(), room) == room.len() {
-        return Ok(());
-    }
-    program.input_ended()?;
-    let refusal = Refusal::EndsInField;
-    program.refuse_short_input(refusal, "the mark mask does");
-    Err(Stop::Refused(refusal))
-}
+// What input ends before that ends inside what stands before the cells.
+const BEFORE: &str = "the mark mask does";
 
 // Reads a number of two bytes.
 fn read_pair(program: Program<'_>) -> Result<u16, Stop> {
     let mut two = [0u8; 2];
-    read_whole(program, &mut two)?;
+    program.read_whole(&mut two, BEFORE)?;
     Ok(u16::from_be_bytes(two))
 }
 
-// How many bytes of cells are due.
+// How many bytes of cells are due. Program and profile go together from here on: both are copied values that no fact joins, and a struct would only rename them.
 fn due(p: Profile) -> usize {
     2 * PARTS * modes::symbol_count(p.mode)
 }
@@ -63,7 +41,8 @@ fn cut(program: Program<'_>, p: Profile, came: usize) -> Result<(), Stop> {
     Err(Stop::Refused(refusal))
 }
 
-// Reads one symbol's first or second parts, which stand behind so many bytes of cells.
+// Reads one symbol's first or second parts, which stand behind so many bytes of cells. compare's loop is alike, and keeps patterns: what both have in common is
+// one line.
 fn read_parts(program: Program<'_>, p: Profile, before: usize, list: &mut [f32]) -> Result<(), Stop>
     requires { before ≤ 229376 }
 {
@@ -110,12 +89,12 @@ fn keep(program: Program<'_>, data: &[u8]) -> Result<(), Said> {
     if program.arg_count() < 2 {
         return Ok(());
     }
-    let mut path = [0u8; PATH_MAX];
-    let n = program.tried("write FILE", program.word(1, &mut path))?;
-    file::keep(program, &path[..n], data)
+    let mut room = [0u8; PATH_MAX];
+    let path = program.tried("write FILE", program.word_in(1, &mut room))?;
+    file::keep(program, path, data)
 }
 
-// The refusal in what asking answered; none where the data came.
+// The refusal in what asking answered; none where the number is no refusal of asking's.
 fn refused(receipt: Receipt) -> Option<Refusal> {
     let place = receipt.place;
     match receipt.number {
@@ -146,14 +125,15 @@ fn refuse(program: Program<'_>, refusal: Refusal, lost: u16, k: u8) -> Said {
     }
 }
 
-// Asks for what was fed, and keeps the data: where it can't be kept, that was said, and the report comes all the same.
+// Asks for what was fed, and keeps the data at number 0 alone: where it can't be kept, that was said, and the report comes all the same.
 fn ask(program: Program<'_>, p: Profile, marks: u16, state: &[u8]) -> Receipt {
     let mut room = [0u8; 1708];
     let n = room.len().min(122 * usize::from(p.k));
     let receipt = receiving::ask(p, marks, state, &mut room[..n]);
-    let _ = match refused(receipt) {
-        None => keep(program, &room[..n]),
-        Some(refusal) => Err(refuse(program, refusal, receipt.lost, p.k)),
+    let _ = match (receipt.number, refused(receipt)) {
+        (0, _) => keep(program, &room[..n]),
+        (_, Some(refusal)) => Err(refuse(program, refusal, receipt.lost, p.k)),
+        (number, None) => Err(program.say(format_args!("{number} refused"))),
     };
     receipt
 }
@@ -173,7 +153,7 @@ fn receive(program: Program<'_>) -> Result<Receipt, Stop> {
     let length = read_pair(program)?;
     let mut room = [0u8; 65536];
     let bytes = &mut room[..usize::from(length)];
-    read_whole(program, bytes)?;
+    program.read_whole(bytes, BEFORE)?;
     let marks = read_pair(program)?;
     let p = profile::read(bytes).map_err(|refusal| {
         program.refuse_profile(refusal, bytes);

@@ -7,7 +7,7 @@ use super::{print, rows};
 use rules::OuterError;
 use std::{array, io};
 
-// By document 01's number.
+// By document 01's number. rules has the number of each error; that being done has the number 0 is said here, for both calls.
 fn outcome(done: Result<(), OuterError>) -> u32
     ensures { result ≡ outcome_number done }
 {

@@ -8,7 +8,7 @@ use super::rows;
 use rules::CodingError;
 use std::io;
 
-// The paper number of an answer.
+// The paper number of an answer: that being done has the number 0 is said here.
 fn number(a: Result<(), CodingError>) -> u32
     ensures { result ≡ coding_number a }
 {

@@ -15,6 +15,7 @@ mod symbols;
 
 use std::io;
 
+// What prints is lent to each function as `rt`: no global output in Rattle, and no fact joins it with what else they take.
 fn main(rt: HostRuntime) -> io::Result<()> {
     packets::all(&rt)?;
     powers::all(&rt)?;
