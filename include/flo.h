@@ -41,7 +41,7 @@ extern "C" {
 #define FLO_DIFFERENCE 6                          /* numbers that flo_compare lists for a difference */
 #define FLO_TOTALS 128                            /* numbers of flo_add's totals: eight for each of the 16 packet positions */
 
-/* A thread with a stack of this many bytes can make every call. As measured on x86-64, a call takes at most 221,000 of them (docs/MEASURED.md). */
+/* A thread with a stack of this many bytes can make every call. As measured on x86-64, a call takes at most 226,000 of them (docs/MEASURED.md). */
 #define FLO_STACK 262144
 
 /* Every call answers one of these numbers: the first that reading the profile finds (1, 2, 3, 5, 40 to 46), then the first that fits of the call's
