@@ -12,6 +12,7 @@ pub mod Weak
 pub mod Twins
 pub mod Month
 pub mod OneAnswer
+pub mod OneResult
 pub mod Reading
 pub mod Members
 pub mod Edges

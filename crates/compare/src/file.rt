@@ -84,7 +84,8 @@ impl CellFile<'_> {
             .tried(format_args!("read {}", Foreign(self.path)), came)
     }
 
-    // Reads it to its end, and answers how many bytes it has.
+    // Reads it to its end, and answers how many bytes it has. Its room is not wanted any more where symbols are compared, and so has a frame of its own.
+    #[inline(never)]
     pub fn length(&mut self) -> Result<u64, Said>
         ensures { IfOk result (λ n. n < 140737488355328) }
     {

@@ -10,28 +10,46 @@ ghost use Rattle.std.specs.Prelude.{◌≤◌, ◌≡◌, length, IfOk};
 ghost use Rattle.rules.specs.Compare.{grids, differing};
 
 use file::{CELLS, CellFile, Symbol};
+use manners::words::Text;
 use manners::{PATH_MAX, Program, Request, Said};
 use rules::Refusal;
 use std::fmt;
+use std::fmt::Write as _;
 
 // Bytes of a symbol.
 const SYMBOL: u64 = 32_768;
 
-// The lines for some differences, six numbers each.
-#[derive(Clone, Copy)]
-struct Lines<'a>(&'a [u32]);
+// Room for the lines that are written together, and more than a line has.
+const ROOM: usize = 16_384;
 
-impl fmt::Display for Lines<'_> {
-    fn fmt<W: fmt::Write>(&self, f: &mut fmt::Formatter<W>) -> fmt::Result {
-        let (sixes, _) = self.0.as_chunks::<6>();
-        for [symbol, cell, first_a, second_a, first_b, second_b] in sixes {
-            writeln!(
-                f,
-                "{symbol} {cell} {first_a:08x} {second_a:08x} {first_b:08x} {second_b:08x}"
-            )?;
-        }
-        Ok(())
+const LINE: usize = 64;
+
+// Puts the line for a difference. A number at a time: one format of all six costs a quarter more.
+fn put_line(lines: &mut Text<ROOM>, six: &[u32; 6]) -> fmt::Result {
+    let [symbol, cell, first_a, second_a, first_b, second_b] = *six;
+    write!(lines, "{symbol}")?;
+    lines.write_str(" ")?;
+    write!(lines, "{cell}")?;
+    for pattern in [first_a, second_a, first_b, second_b] {
+        lines.write_str(" ")?;
+        write!(lines, "{pattern:08x}")?;
     }
+    lines.write_str("\n")
+}
+
+// Prints the lines for some differences, six numbers each. As many as find room go out in one piece: `print` would hand each line to the system alone. Where
+// LINE bytes are free a line is never cut.
+fn print_lines(program: Program<'_>, list: &[u32]) -> Result<(), Said> {
+    let (sixes, _) = list.as_chunks::<6>();
+    let mut lines = Text::<ROOM>::new();
+    for six in sixes {
+        let _ = put_line(&mut lines, six);
+        if lines.room() < LINE {
+            program.write(lines.as_bytes())?;
+            lines.clear();
+        }
+    }
+    program.write(lines.as_bytes())
 }
 
 // Compares symbol y of both files, and prints its lines: as many as the rule has differences.
@@ -43,7 +61,7 @@ fn compare_symbols(program: Program<'_>, y: u32, a: &Symbol, b: &Symbol) -> Resu
     let count = comparing::compare_from(
         y, &a.firsts, &a.seconds, &b.firsts, &b.seconds, &mut list,
     ).unwrap();
-    program.print(Lines(&list[..6 * count as usize]))?;
+    print_lines(program, &list[..6 * count as usize])?;
     Ok(count)
 }
 

@@ -193,10 +193,7 @@ pub fn flo_parity(k: u8, block: &mut [u8]) -> u32
     ensures { FloParity k block.old block.new result }
 {
     // In numbers of its own: 43 has no place here.
-    match outer::fill_parity(k, block) {
-        Ok(()) => 0,
-        Err(e) => e.number(),
-    }
+    outer::number(outer::fill_parity(k, block))
 }
 
 pub fn flo_compare(

@@ -21,13 +21,17 @@ ghost use Rattle.std.specs.Prelude.{◌≡◌, ◌≤◌, ◌⊎◌, length, IfO
 
 use rules::Refusal;
 use std::env::{Env, FillError};
-use std::fmt::Display;
+use std::fmt::{Display, Write as _};
 use std::io::{Error, ErrorKind, Read};
 use std::{fmt, io};
-use words::SystemWords;
+use words::{SystemWords, Text};
 
 // Room for a path: the longest that the system takes has a byte less, for the zero that ends it there.
 pub const PATH_MAX: usize = 4096;
+
+// Room for text that is handed to the system in one piece, as a reader that stops and a line beside others' lines want it: all totals, and a line that names
+// the longest path. What finds no room goes in the pieces that std makes of it.
+const PIECE: usize = 5120;
 
 // The system's numbers for a word that is not there, and for one that is too long.
 const EINVAL: i32 = 22;
@@ -140,9 +144,13 @@ impl Program<'_> {
 
 // What a program says on standard error.
 impl Program<'_> {
-    // A line there; where that can't be written, there is nobody to tell.
+    // A line there, in one piece; where that can't be written, there is nobody to tell.
     pub fn say(self, line: impl Display + Drop) -> Said {
-        let _ = self.rt.eprintln(line);
+        let mut piece = Text::<PIECE>::new();
+        let _ = match writeln!(piece, "{line}") {
+            Ok(()) => self.rt.stderr().write_all(piece.as_bytes()),
+            Err(_) => self.rt.eprintln(line),
+        };
         Said
     }
 
@@ -182,9 +190,14 @@ impl Program<'_> {
         self.tried("write standard output", self.rt.stdout().write_all(bytes))
     }
 
-    // Writes text.
+    // Writes text, in one piece.
     pub fn print(self, text: impl Display + Drop) -> Result<(), Said> {
-        self.tried("write standard output", self.rt.print(text))
+        let mut piece = Text::<PIECE>::new();
+        let written = match write!(piece, "{text}") {
+            Ok(()) => self.rt.stdout().write_all(piece.as_bytes()),
+            Err(_) => self.rt.print(text),
+        };
+        self.tried("write standard output", written)
     }
 
     // That standard input, of which fewer bytes came than were asked for, has ended: a read answers 0 there. Where it can't be read, that is said.

@@ -1,5 +1,5 @@
 // What came from outside the programs, as they show it.
-ghost use Rattle.std.specs.Prelude.{◌+◌, ◌≤◌, length};
+ghost use Rattle.std.specs.Prelude.{◌≡◌, ◌+◌, ◌≤◌, length, take};
 
 use std::fmt;
 use std::fmt::Write;
@@ -59,6 +59,26 @@ impl<const N: usize> Text<N> {
             bytes: [0; N],
             len: 0,
         }
+    }
+
+    // Takes all of it away.
+    pub fn clear(&mut self)
+        ensures { self.new.len ≡ 0 }
+    {
+        self.len = 0;
+    }
+
+    // How many bytes more find room.
+    pub fn room(&self) -> usize
+        ensures { result + self.now.len ≡ N }
+    {
+        N - self.len
+    }
+
+    pub fn as_bytes(&self) -> &[u8]
+        ensures { result.now ≡ take self.now.len self.now.bytes }
+    {
+        &self.bytes[..self.len]
     }
 
     // Without a character at its end that was cut.

@@ -14,6 +14,16 @@ use division::Parity;
 use rules::OuterError;
 use solution::System;
 
+// What an outcome's number is on paper.
+pub fn number(outcome: Result<(), OuterError>) -> u32
+    ensures { result ≡ outcome_number outcome }
+{
+    match outcome {
+        Ok(()) => 0,
+        Err(e) => e.number(),
+    }
+}
+
 // Fills the last 16 - k packets with the parity of the k before them. The loop counts columns: j is a column's number, and its bytes stand 122 apart.
 pub fn fill_parity(k: u8, block: &mut [u8]) -> Result<(), OuterError>
     ensures { ParityMade k block.old block.new (outcome_number result) }

@@ -11,20 +11,21 @@ use std::{fmt, fs, io};
 
 // Keeps the data under the name, or says why it can't.
 pub fn keep(program: Program<'_>, path: &[u8], data: &[u8]) -> Result<(), Said> {
-    let what = format_args!("write {}", Foreign(path));
-    program.tried(what, keep_under(program.rt, path, data))
-}
-
-fn keep_under(rt: HostRuntime, path: &[u8], data: &[u8]) -> io::Result<()> {
-    let name = named(path)?;
-    if let Some(mut file) = standing(rt, name)? {
-        return file.write_all(data);
+    let rt = program.rt;
+    let name = tried(program, path, named(path))?;
+    if let Some(mut file) = tried(program, path, standing(rt, name))? {
+        return tried(program, path, file.write_all(data));
     }
     if is_link(rt, name) {
         let why = "it is a link, name the file that it leads to";
-        return Err(Error::new(ErrorKind::InvalidInput, why));
+        return Err(program.cannot_since(format_args!("write {}", Foreign(path)), why));
     }
-    replace(rt, name, data)
+    replace(program, path, name, data)
+}
+
+// What a step gave; why the path can't be written is said at once.
+fn tried<T>(program: Program<'_>, path: &[u8], outcome: io::Result<T>) -> Result<T, Said> {
+    program.tried(format_args!("write {}", Foreign(path)), outcome)
 }
 
 // What stands under the name and is no regular file, open for writing; none where a new file can take the place. This open changes nothing.
@@ -79,19 +80,25 @@ fn chance(rt: HostRuntime) -> u32 {
     u32::from_be_bytes(four)
 }
 
-// Writes the data into a new file, which takes the name when it is whole, and is removed where it can't be; where that can't be either, it stays.
-fn replace(rt: HostRuntime, name: &str, data: &[u8]) -> io::Result<()> {
+// Writes the data into a new file, which takes the name when it is whole. Where it can't be, that is said, and then it is removed; where that can't be either,
+// it stays.
+fn replace(program: Program<'_>, path: &[u8], name: &str, data: &[u8]) -> Result<(), Said> {
+    let rt = program.rt;
     let mut beside = Text::<PATH_MAX>::new();
     let chance = chance(rt);
-    write!(beside, "{}", Beside { name, chance }).map_err(|_| Error::from_raw_os_error(
-        ENAMETOOLONG,
-    ))?;
+    let room = write!(beside, "{}", Beside { name, chance });
+    tried(
+        program,
+        path,
+        room.map_err(|_| Error::from_raw_os_error(ENAMETOOLONG)),
+    )?;
     let new = beside.as_str();
-    let file = OpenOptions::new()
+    let opened = OpenOptions::new()
         .write(true)
         .create_new(true)
-        .open(&rt, new)?;
-    put_in_place(rt, file, new, name, data).inspect_err(|_| {
+        .open(&rt, new);
+    let file = tried(program, path, opened)?;
+    tried(program, path, put_in_place(rt, file, new, name, data)).inspect_err(|_| {
         let _ = fs::remove_file(&rt, new);
     })
 }

@@ -130,7 +130,8 @@ impl Reader {
 
     // Puts the number at hand into the report, as far as its digits say it; none where it can't be so.
     fn put(&mut self, value: u32) -> Option<()>
-        ensures { self.new.line ≡ self.old.line }
+        ensures line { self.new.line ≡ self.old.line }
+        ensures at { self.new.at ≡ self.old.at }
     {
         let p = self.packet();
         match self.part() {

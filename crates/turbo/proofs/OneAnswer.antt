@@ -8,7 +8,9 @@ use Rattle.rules.specs.Bits.{pick}
 use Rattle.rules.specs.Answers.{coding_number}
 use Rattle.rules.specs.declared.CodingError.{CodingError}
 use Rattle.rules.specs.declared.CodingError.TheVariants.{WrongMode, WrongLength}
-use Rattle.rules.specs.Answers.{Judgement}
+use Rattle.rules.specs.declared.Reason.{Reason}
+use Rattle.rules.specs.declared.Reason.TheVariants.{Marked, Doubtful, CheckWord, Reserved, Coded}
+use Rattle.rules.specs.Answers.{Judgement, judgement_of}
 use Rattle.laws.specs.Holds.{holds_one}
 use Rattle.turbo.specs.Coded.{CodingRule, JudgingRule}
 
@@ -44,3 +46,23 @@ one-judging m v a a' x y = λ i. record { reason = same i; bytes = go (ℕ_discr
     go : Dec (a.reason ≡ 0) → a.bytes ≡ a'.bytes
     go (yes z) = holds_one 0 (x.accepted z) (y.accepted (sym same ∙ z))
     go (no ne) = x.refused ne ∙ sym (y.refused (λ z. ne (same ∙ z)))
+
+-- ---- the judgement that is answered tells the result
+
+reason-of : ℕ → Reason
+reason-of n = pick (eqb n 11) Marked (pick (eqb n 12) Doubtful (pick (eqb n 13) CheckWord (pick (eqb n 14) Reserved Coded)))
+
+judged-of : Judgement → Result (List ℕ) Reason
+judged-of j = pick (eqb j.reason 0) (Ok j.bytes) (Err (reason-of j.reason))
+
+judged-told : (r : Result (List ℕ) Reason) → judged-of (judgement_of r) ≡ r
+unfolding judged-of reason-of
+judged-told (Ok bytes) = refl
+judged-told (Err Marked) = refl
+judged-told (Err Doubtful) = refl
+judged-told (Err CheckWord) = refl
+judged-told (Err Reserved) = refl
+judged-told (Err Coded) = refl
+
+pub one-judged : (m : ℕ) (v : ℕ → ℕ) (r r' : Result (List ℕ) Reason) → JudgingRule m v (judgement_of r) → JudgingRule m v (judgement_of r') → r ≡ r'
+one-judged m v r r' x y = sym (judged-told r) ∙ ap judged-of (one-judging m v _ _ x y) ∙ judged-told r'

@@ -1,21 +1,9 @@
 // Parity of a block, lost packets restored, and what is refused.
 ghost use Rattle.std.specs.Prelude.{◌≡◌, ◌≤◌, true, length};
-ghost use Rattle.rules.specs.Answers.{outcome_number};
 ghost use Rattle.rules.specs.Outer.{is_k};
 
 use super::{print, rows};
-use rules::OuterError;
 use std::{array, io};
-
-// By document 01's number. rules has the number of each error; that being done has the number 0 is said here, for both calls.
-fn outcome(done: Result<(), OuterError>) -> u32
-    ensures { result ≡ outcome_number done }
-{
-    match done {
-        Ok(()) => 0,
-        Err(e) => e.number(),
-    }
-}
 
 // A block's packet p, of parity.
 fn start_of(rt: &impl Print, k: u8, p: usize, packet: &[u8]) -> io::Result<()>
@@ -31,7 +19,7 @@ fn parity(rt: &impl Print, k: u8) -> io::Result<()>
     requires { k ≤ 16 }
 {
     let mut block: [u8; 1952] = rows::by_formula();
-    let done = outcome(outer::fill_parity(k, &mut block));
+    let done = outer::number(outer::fill_parity(k, &mut block));
     let made = &block[122 * k as usize..];
     println!(rt; "parity {k} {done} {:04x}", print::word_of(made))?;
     for (p, packet) in (k as usize..).zip(made.chunks_exact(122)) {
@@ -70,7 +58,7 @@ fn restored(
 ) -> io::Result<()> {
     let given: [u8; 1952] = array::from_fn(|i| sent[i] ^ spoiling(lost, altered, i));
     let mut block = given;
-    let done = outcome(outer::restore(k, lost, &mut block));
+    let done = outer::number(outer::restore(k, lost, &mut block));
     let from_sent = rows::differing(sent, &block);
     let from_given = rows::differing(&given, &block);
     println!(rt;
@@ -121,8 +109,8 @@ fn refused(rt: &impl Print, k: u8, n: usize) -> io::Result<()>
     let before = &[1u8; 1953][..n];
     let mut room = [1u8; 1953];
     let block = &mut room[..n];
-    let filled = outcome(outer::fill_parity(k, block));
-    let restored = outcome(outer::restore(k, 0, block));
+    let filled = outer::number(outer::fill_parity(k, block));
+    let restored = outer::number(outer::restore(k, 0, block));
     println!(rt;
         "refused {k} {n} {filled} {restored} {}",
         rows::differing(before, block)

@@ -22,9 +22,9 @@ slice_bounds-list-end c =
     let at = (goal.at.slice_bounds-list-end c).After-unwrap-count in
     omega (arith, few at, room at)
 
-pub slice_bounds-print-end : goal.slice_bounds-print-end
-slice_bounds-print-end c =
-    let at = (goal.at.slice_bounds-print-end c).After-unwrap-count in
+pub slice_bounds-print_lines-end : goal.slice_bounds-print_lines-end
+slice_bounds-print_lines-end c =
+    let at = (goal.at.slice_bounds-print_lines-end c).After-unwrap-count in
     sym (length-take-le _ _ (omega (arith, few at, room at)))
 
 pub returns-clause-few : goal.returns-clause-few
