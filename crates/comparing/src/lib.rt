@@ -97,6 +97,16 @@ impl<'a> Pair<'a> {
         ]
     }
 
+    // Puts cell i's difference, the k-th, at its place in the list. Where it doesn't fit it isn't made: its parts would be read for nothing.
+    fn list_cell(&self, from: u32, list: &mut [u32], k: usize, i: usize)
+        requires { i < length self.now.firsts_a }
+        ensures { Gone list.old (place (length list.old) k) (rule.difference from self.now i) list.new (place (length list.old) (k + 1)) }
+    {
+        if list.len() / 6 > k {
+            list_one(list, k, self.difference(from, i));
+        }
+    }
+
     // Lists the differences in rising order, as far as they fit, and answers how many there are.
     fn list_all(&self, from: u32, list: &mut [u32]) -> u64
         ensures count { result ≡ length (differing self.now) }
@@ -106,7 +116,7 @@ impl<'a> Pair<'a> {
         // i is the cell's number in both grids, which a difference says.
         for i in 0..self.cells() {
             if self.differs(i) {
-                list_one(list, count, self.difference(from, i));
+                self.list_cell(from, list, count, i);
                 count += 1;
             }
         }

@@ -13,7 +13,7 @@ loop-i-preserved c =
     let is = c.differs.ensures in
     elim c.if-differs.branch [
       | then-differs w ↦
-          rw (w.list-is, w.count-is) (going_next c.loop-i.invariant (omega arith) (sym is ∙ w.if-differs.true) (rw (← w.difference.ensures) w.list_one.ensures))
+          rw (w.list-is, w.count-is) (going_next c.loop-i.invariant (omega arith) (sym is ∙ w.if-differs.true) w.list_cell.ensures)
       | else-differs w ↦ rw (w.list-is, w.count-is) (going-same c.loop-i.invariant (omega arith) (sym is ∙ w.if-differs.false))
     ]
 
